@@ -1,0 +1,4 @@
+pub mod Heard
+pub mod Pair
+pub mod Voice
+pub mod Mix
