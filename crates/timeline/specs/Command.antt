@@ -1,7 +1,11 @@
 -- What a command is, which clip it holds, and which gains it may have. Definitions only.
 use mathlib.Core.Bool.{Bool, true, false, _&&_}
-use lib.Ieee.{le}
+use Prim.Native.Nat.{_^_}
+use lib.Dec.{ltb}
+use lib.Ieee.{binary32, fits, le}
+use Rattle.counts.specs.declared.Handle.{Handle}
 use Rattle.counts.specs.declared.Claim.{Claim}
+use Rattle.counts.specs.Handles.{sameHandle}
 use Rattle.ramp.specs.Number.{finite, sixteen32}
 use Rattle.timeline.specs.declared.Command.{Command}
 use Rattle.timeline.specs.declared.Submission.{Submission}
@@ -36,6 +40,38 @@ abbrev pub takesVoice : Claim → Bool
 takesVoice Claim.Nothing = false
 takesVoice (Claim.Song h) = false
 takesVoice (Claim.Stinger h) = true
+
+-- what claims h: a song or a stinger of that handle
+abbrev pub claims : Handle → Claim → Bool
+claims h Claim.Nothing = false
+claims h (Claim.Song k) = sameHandle h k
+claims h (Claim.Stinger k) = sameHandle h k
+
+-- a Transition
+abbrev pub commandIsTransition : Command → Bool
+commandIsTransition Command.Play = false
+commandIsTransition Command.Pause = false
+commandIsTransition Command.Stop = false
+commandIsTransition (Command.Seek f) = false
+commandIsTransition (Command.Transition f) = true
+commandIsTransition (Command.Loop s e) = false
+commandIsTransition Command.ClearLoop = false
+commandIsTransition (Command.Gain g) = false
+commandIsTransition (Command.Swap h) = false
+commandIsTransition (Command.Stinger h g) = false
+
+-- each number of the command is one of its type: a serial has 32 bits, a gain is an f32
+abbrev pub typed : Command → Bool
+typed Command.Play = true
+typed Command.Pause = true
+typed Command.Stop = true
+typed (Command.Seek f) = true
+typed (Command.Transition f) = true
+typed (Command.Loop s e) = true
+typed Command.ClearLoop = true
+typed (Command.Gain g) = fits binary32 g
+typed (Command.Swap h) = ltb (h .serial) (2 ^ 32)
+typed (Command.Stinger h g) = ltb (h .serial) (2 ^ 32) && fits binary32 g
 
 -- a gain is finite, a stinger's at most 16
 abbrev pub gainOk : Command → Bool
