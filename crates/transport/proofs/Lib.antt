@@ -1,0 +1,5 @@
+pub mod Fits
+pub mod Held
+pub mod Moves
+pub mod Numbers
+mod Within

@@ -1,0 +1,97 @@
+-- What a frame moves: nothing unless Playing; without a loop the position by 1, up to the length; the cursor by at most 1, or to a loop's start. Assumes nothing.
+use mathlib.Core.Path.{_≡_, refl, subst}
+use mathlib.Core.Bool.{true, false}
+use mathlib.Core.Logic.{_⊎_, inl, inr}
+use Prim.Native.Nat.{ℕ, _+_, _≤_, _<_}
+use borrow.Author.Tests.{le-leb, lt-leb}
+use lib.Dec.{leb, ltb}
+use Rattle.counts.proofs.Truth.{cond-both}
+use Rattle.transport.specs.declared.TransportState.{TransportState}
+use Rattle.transport.specs.declared.TransportState.the-variants.{Stopped, Playing}
+use Rattle.transport.specs.declared.LoopRange.{LoopRange}
+use Rattle.transport.specs.declared.LoopRange.the-variants.{Off, Range}
+use Rattle.transport.specs.declared.Transport.{Transport}
+use Rattle.transport.specs.Transport.{isPlaying, transport, movedTo, wrapTo, wrapIn, wrapOf, cursorOn, landIn, advanceOf, stepOf}
+
+-- if not Playing nothing moves
+pub rests : (frames extent : ℕ) (t : Transport) → isPlaying (t .state) ≡ false → stepOf frames extent t ≡ record { transport = t; playing = false; cursor = t .cursor }
+unfolding stepOf advanceOf wrapOf
+rests frames extent t e = simp e
+
+-- Playing without a loop, short of the length: the position rises by 1
+pub rises : (frames extent p c : ℕ) → p + 1 < extent
+    → stepOf frames extent (transport Playing p c Off) ≡ record { transport = transport Playing (p + 1) (cursorOn frames c) Off; playing = true; cursor = record { 0 = c } }
+unfolding stepOf advanceOf wrapOf
+rises frames extent p c h = simp (lt-leb extent (p + 1) h)
+
+-- Playing without a loop, at the length: there it stops
+pub ends : (frames extent p c : ℕ) → extent ≤ p + 1
+    → stepOf frames extent (transport Playing p c Off) ≡ record { transport = transport Stopped extent (cursorOn frames c) Off; playing = true; cursor = record { 0 = c } }
+unfolding stepOf advanceOf wrapOf
+ends frames extent p c h = simp (le-leb extent (p + 1) h)
+
+-- the loop starts there
+abbrev pub StartsAt : LoopRange → ℕ → Type 0
+StartsAt Off c = ⊥
+StartsAt (Range s e) c = c ≡ s .0
+
+-- rule a leaves the cursor, or takes it to the loop's start
+wrap-in : (t : Transport) (l : LoopRange) → (wrapIn l t .cursor .0 ≡ t .cursor .0) ⊎ StartsAt l (wrapIn l t .cursor .0)
+wrap-in t Off = inl refl
+wrap-in t (Range s e) =
+    cond-both (λ (x : Transport). (x .cursor .0 ≡ t .cursor .0) ⊎ (x .cursor .0 ≡ s .0)) (leb (e .0) (t .position .0)) (wrapTo (s .0) (e .0) t) t (inr refl) (inl refl)
+
+-- the song is read at the cursor, or at the loop's start
+pub read-at : (frames extent : ℕ) (t : Transport)
+    → (stepOf frames extent t .cursor .0 ≡ t .cursor .0) ⊎ StartsAt (t .looped) (stepOf frames extent t .cursor .0)
+unfolding stepOf wrapOf
+read-at frames extent t =
+    cond-both (λ (x : Transport). (x .cursor .0 ≡ t .cursor .0) ⊎ StartsAt (t .looped) (x .cursor .0)) (isPlaying (t .state)) (wrapIn (t .looped) t) t (wrap-in t (t .looped)) (inl refl)
+
+-- the state and the loop of the one are the other's
+abbrev Kept : Transport → Transport → Type 0
+Kept t x = (x .state ≡ t .state) × (x .looped ≡ t .looped)
+
+wrap-in-keeps : (t : Transport) (l : LoopRange) → Kept t (wrapIn l t)
+wrap-in-keeps t Off = (refl, refl)
+wrap-in-keeps t (Range s e) = cond-both (Kept t) (leb (e .0) (t .position .0)) (wrapTo (s .0) (e .0) t) t (refl, refl) (refl, refl)
+
+-- rule a leaves the state and the loop
+wrap-keeps : (t : Transport) → Kept t (wrapOf t)
+unfolding wrapOf
+wrap-keeps t = cond-both (Kept t) (isPlaying (t .state)) (wrapIn (t .looped) t) t (wrap-in-keeps t (t .looped)) (refl, refl)
+
+-- the song plays in a frame if it was Playing before it
+pub plays : (frames extent : ℕ) (t : Transport) → stepOf frames extent t .playing ≡ isPlaying (t .state)
+unfolding stepOf
+plays frames extent t = rw (wrap-keeps t .0)
+
+-- a cursor stays, moves on by 1 or goes to the start of the loop
+abbrev pub Follows : LoopRange → ℕ → ℕ → Type 0
+Follows l c d = (d ≡ c) ⊎ (d ≡ c + 1) ⊎ StartsAt l d
+
+on-follows : (frames c : ℕ) (l : LoopRange) → Follows l c (cursorOn frames c)
+unfolding cursorOn
+on-follows frames c l = cond-both (Follows l c) (ltb c frames) (c + 1) c (inr (inl refl)) (inl refl)
+
+land-follows : (extent p c d : ℕ) (s : TransportState) (l : LoopRange) → Follows l c d → Follows l c (landIn extent l (transport s p d l) .cursor .0)
+land-follows extent p c d s Off h =
+    cond-both (λ (x : Transport). Follows Off c (x .cursor .0)) (leb extent p) (transport Stopped extent d Off) (transport s p d Off) h h
+land-follows extent p c d s (Range a b) h =
+    cond-both (λ (x : Transport). Follows (Range a b) c (x .cursor .0)) (leb (b .0) p) (transport s (a .0) (a .0) (Range a b)) (transport s p d (Range a b)) (inr (inr refl)) h
+
+advance-follows : (frames extent : ℕ) (w : Transport) → Follows (w .looped) (w .cursor .0) (advanceOf frames extent w .cursor .0)
+unfolding advanceOf
+advance-follows frames extent w =
+    let c : ℕ = w .cursor .0 in
+    let p : ℕ = w .position .0 + 1 in
+    let d : ℕ = cursorOn frames c in
+    cond-both (λ (x : Transport). Follows (w .looped) c (x .cursor .0)) (isPlaying (w .state)) (landIn extent (w .looped) (movedTo w p d)) w
+    (land-follows extent p c d (w .state) (w .looped) (on-follows frames c (w .looped))) (inl refl)
+
+-- after the frame the cursor is where the song was read, one on, or at the loop's start
+pub moves-on : (frames extent : ℕ) (t : Transport) → Follows (t .looped) (stepOf frames extent t .cursor .0) (stepOf frames extent t .transport .cursor .0)
+unfolding stepOf
+moves-on frames extent t =
+    subst (λ (l : LoopRange). Follows l (wrapOf t .cursor .0) (advanceOf frames extent (wrapOf t) .cursor .0)) (wrap-keeps t .1)
+    (advance-follows frames extent (wrapOf t))
