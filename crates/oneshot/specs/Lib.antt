@@ -2,3 +2,4 @@ pub mod Heard
 pub mod Pair
 pub mod Voice
 pub mod Mix
+pub mod Sounding

@@ -1,0 +1,6 @@
+mod Any
+mod Places
+mod Walk
+pub mod Next
+pub mod Fires
+pub mod Agree
