@@ -3,7 +3,8 @@ use Prim.Native.Nat.{ℕ, _+_, _-_, _/_, _%_, _^_}
 use mathlib.Core.Bool.{Bool, true, false, not, _&&_, _||_, cond}
 use lib.Dec.{eqb, ltb}
 use lib.ListN.{getD, set, replicate}
-use lib.Count.{trailingZeros}
+use lib.Count.{trailingZeros, ones}
+use Rattle.counts.specs.Below.{within}
 use Rattle.counts.specs.declared.Handle.{Handle}
 use Rattle.counts.specs.declared.Claim.{Claim}
 use Rattle.bank.specs.declared.Kind.{Kind}
@@ -19,6 +20,10 @@ usedAt u i = eqb (u / 2 ^ i % 2) 1
 -- the lowest free slot is the count of trailing ones, by trailing zeros of the complement; 32 if all are used
 unfoldable pub freeSlot : ℕ → ℕ
 freeSlot u = trailingZeros 32 (2 ^ 32 - 1 - u)
+
+-- the loaded count is its ones
+abbrev pub loadedCount : ℕ → ℕ
+loadedCount u = ones u
 
 -- what an empty slot holds at opening
 abbrev pub blank : Clip
@@ -43,6 +48,10 @@ live b h = ltb (h .slot) 32 && (usedAt (b .used) (h .slot) && eqb (clipOf b h .s
 -- looking a handle up gives its clip, or says that it is stale
 abbrev pub foundOf : Bank → Handle → Found
 foundOf b h = cond (live b h) (Found.Live (clipOf b h)) Found.Stale
+
+-- a handle is spent once its serial has been given and it is live no more
+unfoldable pub spent : Bank → Handle → Bool
+spent b h = within 1 (b .last) (h .serial) && not (live b h)
 
 -- a song's length
 abbrev pub extentOf : Kind → ℕ
@@ -107,6 +116,10 @@ claimOk b rate c =
     not (isStale x || wrongKind c x || wrongRate rate x)
 
 -- ---- what loading and retiring leave
+
+-- the handle of a clip in a slot
+abbrev pub handleOf : ℕ → Clip → Handle
+handleOf slot c = record { slot = slot; serial = c .serial }
 
 -- a clip in a slot, its serial the last given
 unfoldable pub loadedIn : Bank → ℕ → Clip → Bank

@@ -1,0 +1,10 @@
+mod Candidates
+mod Places
+mod Sums
+pub mod Slots
+pub mod Fit
+pub mod Clauses
+pub mod Kept
+pub mod Handles
+pub mod Pool
+pub mod Claims
