@@ -1,6 +1,6 @@
 mod Candidates
-mod Places
-mod Sums
+pub mod Places
+pub mod Sums
 pub mod Slots
 pub mod Fit
 pub mod Clauses

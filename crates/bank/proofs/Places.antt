@@ -1,20 +1,18 @@
 -- Places of a list: what is read inside it, and a list copied place by place into a part of another. Assumes nothing.
-use mathlib.Core.Path.{_≡_, refl, sym, _∙_}
-use mathlib.Core.List.{List, [], _∷_, _++_}
-use Prim.Native.Nat.{ℕ, zero, suc, _+_, _-_, _<_}
+use mathlib.Core.Path.{_≡_, sym, _∙_}
+use mathlib.Core.List.{List, _++_}
+use Prim.Native.Nat.{ℕ, _+_, _-_, _<_}
 use native.Mathlib.Omega.{arith}
-use native.Mathlib.Nat.{not-suc-le-zero, le-of-suc-le-suc, le-of-eq}
+use native.Mathlib.Nat.{le-of-eq}
 use native.Mathlib.Numerals.{add-one}
 use lib.ListN.{getD, length, take, drop, set}
-use lib.Seq.{take-suc, take-suc-set, take-length, take-all, drop-drop}
+use lib.Seq.{drop-cons, take-suc, take-suc-set, take-length, take-all, drop-drop}
 use Rattle.bank.specs.Room.{pasted}
 
 module _ {ℓ} {A : Type ℓ} where
   -- what stands inside a list does not turn on what is read past its end
   pub getD-any : (l : List A) (i : ℕ) (a b : A) → i < length l → getD l i a ≡ getD l i b
-  getD-any [] i a b h = absurd (not-suc-le-zero h)
-  getD-any (x ∷ xs) zero a b h = refl
-  getD-any (x ∷ xs) (suc i) a b h = getD-any xs i a b (le-of-suc-le-suc h)
+  getD-any l i a b h = cc (drop-cons l i a h, drop-cons l i b h)
 
   -- one more place is copied
   pub copy-step : (d s : List A) (i : ℕ) (z : A) → i < length d → i < length s → take i d ≡ take i s → take (i + 1) (set d i (getD s i z)) ≡ take (i + 1) s

@@ -1,4 +1,3 @@
-mod Any
 mod Places
 mod Walk
 pub mod Next

@@ -17,7 +17,7 @@ use Rattle.oneshot.specs.Pair.{silence}
 use Rattle.oneshot.specs.Voice.{voiceOf}
 use Rattle.oneshot.specs.Mix.{Mix, mixOf, blankVoice, sounding, backIn}
 use Rattle.oneshot.specs.Sounding.{Each}
-use Rattle.oneshot.proofs.Any.{getD-any}
+use Rattle.bank.proofs.Places.{getD-any}
 
 -- voices before those of a mix
 abbrev prepend : List Voice → Mix → Mix

@@ -8,7 +8,7 @@ use Rattle.bank.specs.declared.Clip.{Clip}
 use Rattle.bank.specs.Slots.{blank, clipOf}
 use Rattle.bank.specs.Recording.{viewOf}
 use Rattle.oneshot.specs.Voice.{voiceOf}
-use Rattle.oneshot.proofs.Any.{getD-any}
+use Rattle.bank.proofs.Places.{getD-any}
 use Rattle.oneshot.proofs.Voice.sound.Statement.{statement}
 use Rattle.oneshot.proofs.Voice.sound.Tie as tie
 
