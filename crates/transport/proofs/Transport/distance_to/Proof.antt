@@ -1,5 +1,4 @@
 -- `Transport::distance_to` meets its contract: the tests are the definition's, in its order.
-use Prim.Native.Nat.{_≤_}
 use native.Mathlib.Omega.{arith}
 use borrow.Author.Needs.{needs}
 use borrow.Author.Tests.{le-leb, lt-leb}
@@ -10,10 +9,7 @@ use Rattle.transport.proofs.Transport.distance_to.Tie as tie
 
 returns : tie.Need-returns
 unfolding distanceTo
-returns c =
-    let a = c .before .args in
-    let ahead : a .self .position .0 ≤ a .target .0 = omega arith in
-    simp (le-leb _ _ ahead)
+returns c = simp (le-leb _ _ (c .if1 .taken))
 
 enum-told : tie.Need-enum-told
 enum-told c = search needs
