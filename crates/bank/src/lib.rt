@@ -15,6 +15,9 @@ use counts::SongFrame;
 
 pub const SLOTS: usize = 32;
 
+/// A song's length goes to 2^40.
+pub const LONGEST: u64 = 0x100_0000_0000;
+
 /// No start at all.
 pub const NOWHERE: u64 = 0xffff_ffff_ffff_ffff;
 
@@ -332,9 +335,9 @@ pub fn ends_by(start: u64, frames: u64, end: u64) -> bool
 pub fn apart(c: Clip, start: u64, frames: u64) -> bool
     ensures { λ r. ⌜ r ≡ apart c start frames ⌝ }
 {
-    let over = ends_by(c.start, c.frames, start);
-    let under = ends_by(start, frames, c.start);
-    over | under
+    let ended = ends_by(c.start, c.frames, start);
+    let later = ends_by(start, frames, c.start);
+    ended | later
 }
 
 /// The slot is free, or its clip has none of the n frames from start on.
@@ -404,7 +407,7 @@ fn candidate(b: Bank, room: u64, n: u64, i: usize) -> u64
     NOWHERE
 }
 
-/// The lowest start in the pool where a clip of n frames meets no loaded clip: the pool's front or a loaded clip's end.
+/// The lowest start in the pool where a clip of n frames meets no loaded clip, the pool's front or a loaded clip's end; else nowhere.
 pub fn first_fit(b: Bank, room: u64, n: u64) -> u64
     requires { ⌜ 1 ≤ n ⌝ }
     ensures { λ r. ⌜ r ≡ firstFit b room n ⌝ }
@@ -454,7 +457,7 @@ pub fn extent_ok(kind: Kind, frames: u64) -> bool
     ensures { λ r. ⌜ r ≡ extentOk kind frames ⌝ }
 {
     match kind {
-        Kind::Song(n) => (frames <= n.0) & (n.0 <= 0x100_0000_0000),
+        Kind::Song(n) => (frames <= n.0) & (n.0 <= LONGEST),
         Kind::Stinger => true,
     }
 }
