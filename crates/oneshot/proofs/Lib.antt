@@ -1,4 +1,4 @@
-mod Places
+pub mod Places
 mod Walk
 pub mod Next
 pub mod Fires

@@ -1,0 +1,7 @@
+mod Sizes
+mod Checks
+pub mod Parts
+pub mod Typed
+pub mod Refuse
+pub mod Ready
+pub mod Kept

@@ -1,0 +1,5 @@
+mod Past
+pub mod Clock
+pub mod Clamped
+pub mod Keeps
+pub mod Weight

@@ -1,0 +1,15 @@
+-- `Playhead::step` meets its contract: it is the transport's. Assumes nothing.
+use borrow.Author.Needs.{needs}
+use Rattle.stage.specs.Playhead.{movedOf}
+use Rattle.stage.proofs.Playhead.step.Statement.{statement}
+use Rattle.stage.proofs.Playhead.step.Tie as tie
+
+step-requires : tie.Need-step-requires
+step-requires c κs = search needs
+
+returns : tie.Need-returns
+unfolding movedOf
+returns c = rw (c .before .before .step .ensures)
+
+pub step-spec : {M : Type 1} → statement M
+step-spec = tie.close (tie.spec step-requires returns)
