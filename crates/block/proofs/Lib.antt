@@ -1,0 +1,11 @@
+pub mod Weigh
+pub mod Queue
+pub mod Cut
+pub mod Later
+pub mod Pools
+pub mod Kept
+pub mod Going
+pub mod Stretching
+pub mod Filling
+pub mod Numbers
+pub mod Steps

@@ -1,0 +1,59 @@
+-- The block. Definitions only.
+use Prim.Native.Nat.{ℕ, _+_, _^_}
+use mathlib.Core.Bool.{not}
+use mathlib.Core.List.{List, [], _∷_, _++_}
+use lib.Dec.{ltb}
+use lib.ListN.{length}
+use lib.Ieee.{Float}
+use Rattle.laws.specs.Block.{Ran, stand, block}
+use Rattle.timeline.specs.declared.QueueRecord.{QueueRecord}
+use Rattle.timeline.specs.Queue.{queue}
+use Rattle.bank.specs.Sample.{framesOf, isPool, isOdd}
+use Rattle.bank.specs.Recording.{viewOf}
+use Rattle.oneshot.specs.declared.Pair.{Pair}
+use Rattle.stage.specs.declared.Stage.{Stage}
+use Rattle.stage.specs.Machine.{Told, machineOf, outputOf}
+use Rattle.session.specs.declared.Session.{Session}
+use Rattle.session.specs.declared.Refusal.{Refusal}
+use Rattle.session.specs.declared.Weighed.{Weighed}
+use Rattle.session.specs.declared.Answer.{Answer}
+use Rattle.session.specs.declared.Answered.{Answered}
+use Rattle.session.specs.Refusal.{first, unless}
+use Rattle.session.specs.Session.{withStage}
+use Rattle.session.specs.WellFormed.{wellFormed}
+use Rattle.session.specs.Answer.{answered}
+
+-- 1, 2, 3, 4
+unfoldable pub weighBlock : Session → List ℕ → List ℕ → List Float → List Float → Weighed
+weighBlock s q c pool out =
+    first (not (wellFormed s q c)) Refusal.NotWellFormed
+    (first (not (isPool pool (s .settings .pool))) Refusal.PoolLength
+    (first (isOdd out) Refusal.OddSamples
+    (first (ltb (2 ^ 62) (s .stage .clock .0 + framesOf out)) Refusal.ClockSpent
+    Weighed.Fine)))
+
+-- n frames of the stage, over the bank's clips in the pool and the queue's records
+unfoldable pub ranOf : Session → List ℕ → List Float → ℕ → Ran Stage QueueRecord Pair Told
+ranOf s q pool n = block (machineOf (s .settings) (viewOf pool (s .bank))) n (stand (s .stage) (queue q (s .queued)))
+
+-- the stage is where the block came to, and what it did not execute stays queued; the output is what its frames made
+abbrev pub blockDone : Session → Ran Stage QueueRecord Pair Told → Answered × List Float
+blockDone s r = (answered Answer.Done (withStage s (r .at .core) (length (r .at .queue))), outputOf (r .made))
+
+-- answer and session; output
+unfoldable pub blockOf : Session → List ℕ → List ℕ → List Float → List Float → Answered × List Float
+blockOf s q c pool out =
+    unless (weighBlock s q c pool out) (λ k. (answered (Answer.Refused k) s, out)) (blockDone s (ranOf s q pool (framesOf out)))
+
+-- blocks one after the other, each on the session that the one before it left: the last session, and the outputs joined
+abbrev pub blocksOf : Session → List ℕ → List ℕ → List Float → List (List Float) → Session × List Float
+blocksOf s q c pool [] = (s, [])
+blocksOf s q c pool (out ∷ outs) =
+    let x : Answered × List Float = blockOf s q c pool out in
+    let y : Session × List Float = blocksOf (x .0 .session) q c pool outs in
+    (y .0, x .1 ++ y .1)
+
+-- one output of all their frames
+abbrev pub joined : List (List Float) → List Float
+joined [] = []
+joined (out ∷ outs) = out ++ joined outs
