@@ -1,11 +1,11 @@
 pub mod Weigh
+pub mod Kept
 pub mod Queue
 pub mod Cut
 pub mod Later
 pub mod Pools
-pub mod Kept
-pub mod Going
-pub mod Stretching
-pub mod Filling
 pub mod Numbers
-pub mod Steps
+mod Steps
+mod Going
+mod Stretching
+mod Filling

@@ -6,7 +6,7 @@ use mathlib.Core.List.{List}
 use Prim.Native.Nat.{ℕ, _+_, _≤_, _<_, min}
 use native.Mathlib.Omega.{arith}
 use lib.Dec.{eqb}
-use lib.ListN.{length, getD, take, length-set}
+use lib.ListN.{length, take, length-set}
 use lib.Seq.{getD-set-other, take-all, take-length}
 use lib.Ieee.{Float}
 use Rattle.laws.specs.Queue.{Each}
@@ -23,7 +23,6 @@ use Rattle.timeline.specs.declared.QueueRecord.{QueueRecord}
 use Rattle.timeline.specs.Command.{claimOf}
 use Rattle.timeline.specs.Queue.{queue, frame}
 use Rattle.transport.specs.Transport.{cursorOn}
-use Rattle.bank.specs.declared.Bank.{Bank}
 use Rattle.bank.specs.Sample.{framesOf}
 use Rattle.bank.specs.Recording.{View, viewOf}
 use Rattle.oneshot.specs.declared.Voice.{Voice}

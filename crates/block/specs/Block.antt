@@ -28,9 +28,7 @@ unfoldable pub weighBlock : Session → List ℕ → List ℕ → List Float →
 weighBlock s q c pool out =
     first (not (wellFormed s q c)) Refusal.NotWellFormed
     (first (not (isPool pool (s .settings .pool))) Refusal.PoolLength
-    (first (isOdd out) Refusal.OddSamples
-    (first (ltb (2 ^ 62) (s .stage .clock .0 + framesOf out)) Refusal.ClockSpent
-    Weighed.Fine)))
+    (first (isOdd out) Refusal.OddSamples (first (ltb (2 ^ 62) (s .stage .clock .0 + framesOf out)) Refusal.ClockSpent Weighed.Fine)))
 
 -- n frames of the stage, over the bank's clips in the pool and the queue's records
 unfoldable pub ranOf : Session → List ℕ → List Float → ℕ → Ran Stage QueueRecord Pair Told

@@ -1,9 +1,9 @@
 //! The block call: a block is split where commands are due, so that none lands early or late.
 ghost use mathlib.Core.Path.{_≡_};
-ghost use mathlib.Core.Bool.{true, false};
+ghost use mathlib.Core.Bool.{false};
 ghost use mathlib.Core.List.{List, _++_};
 ghost use lib.Ieee.{Float};
-ghost use Prim.Native.Nat.{_*_, _%_, _≤_, _<_};
+ghost use Prim.Native.Nat.{_*_, _≤_, _<_};
 ghost use lib.ListN.{length, drop};
 ghost use Rattle.bank.specs.Sample.{framesOf};
 ghost use Rattle.stage.specs.Machine.{outputOf};
@@ -125,10 +125,9 @@ fn fill(s: Session, queue: &[u64], pool: &[f32], out: &mut [f32]) -> Session
             if done == frames {
                 break 'block;
             }
+        } else if done == frames {
+            break 'block;
         } else {
-            if done == frames {
-                break 'block;
-            }
             let ahead = lead(s, queue, frames - done);
             let at = done * 2;
             s = stretch(s, pool, &mut out[at..], ahead);

@@ -7,10 +7,6 @@ use borrow.Author.Needs.{needs}
 use Rattle.block.proofs.Weigh.{accepted, fillable, block-done, block-refused}
 use Rattle.block.proofs.block.Statement.{statement}
 use Rattle.block.proofs.block.Tie as tie
-use Rattle.block.proofs.block.Reads as reads
-use Rattle.block.proofs.block.Lts as lts
-use Rattle.block.proofs.fill.Reads as fill-reads
-use Rattle.block.proofs.weigh_block.Reads as weigh-block-reads
 
 weigh-block-requires : tie.Need-weigh-block-requires
 weigh-block-requires c κs = search needs

@@ -1,6 +1,6 @@
 -- `block::fill` meets its contract. Assumes nothing.
 use mathlib.Core.Path.{sym, ap, _∙_}
-use Prim.Native.Nat.{_+_, _-_, _≤_, _<_}
+use Prim.Native.Nat.{_+_, _-_, _<_}
 use native.Mathlib.Omega.{arith}
 use borrow.Author.Needs.{needs}
 use Rattle.session.specs.declared.Session.{Session}
@@ -9,12 +9,6 @@ use Rattle.block.proofs.Going.{queue-stands}
 use Rattle.block.proofs.Filling.{Filling, fill-start, fill-going, fill-exec, turn-most, turn-some, turn-asked, fill-stretch, fill-last, fill-end, fill-none}
 use Rattle.block.proofs.fill.Statement.{statement}
 use Rattle.block.proofs.fill.Tie as tie
-use Rattle.block.proofs.fill.Reads as reads
-use Rattle.block.proofs.fill.Lts as lts
-use Rattle.block.proofs.execute_first.Reads as execute-first-reads
-use Rattle.block.proofs.is_due.Reads as is-due-reads
-use Rattle.block.proofs.lead.Reads as lead-reads
-use Rattle.block.proofs.stretch.Reads as stretch-reads
 
 abbrev Inv-block : tie.InvT-block
 Inv-block queue pool out₀ frames s₀ done₀ out s done = Filling s₀ queue pool frames out s done

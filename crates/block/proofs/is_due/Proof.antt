@@ -4,9 +4,6 @@ use borrow.Author.Needs.{needs}
 use Rattle.block.proofs.Steps.{due-at}
 use Rattle.block.proofs.is_due.Statement.{statement}
 use Rattle.block.proofs.is_due.Tie as tie
-use Rattle.block.proofs.is_due.Reads as reads
-use Rattle.block.proofs.is_due.Lts as lts
-use Rattle.timeline.proofs.first_at.Reads as first-at-reads
 
 returns : tie.Need-returns
 returns c = rw (c .if1 .taken)

@@ -7,9 +7,6 @@ use Rattle.counts.specs.declared.ClockFrame.{ClockFrame}
 use Rattle.block.proofs.Steps.{lead-at, not-due}
 use Rattle.block.proofs.lead.Statement.{statement}
 use Rattle.block.proofs.lead.Tie as tie
-use Rattle.block.proofs.lead.Reads as reads
-use Rattle.block.proofs.lead.Lts as lts
-use Rattle.timeline.proofs.first_at.Reads as first-at-reads
 
 returns : tie.Need-returns
 returns c = rw (c .if1 .taken)

@@ -3,12 +3,8 @@ use Prim.Native.Nat.{_-_}
 use native.Mathlib.Omega.{arith}
 use lib.ListN.{length-set}
 use Rattle.block.proofs.Stretching.{Stretching, stretch-start, stretch-ready, stretch-turn, stretch-end}
-use borrow.Author.Needs.{needs}
 use Rattle.block.proofs.stretch.Statement.{statement}
 use Rattle.block.proofs.stretch.Tie as tie
-use Rattle.block.proofs.stretch.Reads as reads
-use Rattle.block.proofs.stretch.Lts as lts
-use Rattle.stage.proofs.Stage.frame.Reads as frame-reads
 
 abbrev Inv-loop : tie.InvT-loop
 Inv-loop s pool out₀ frames settings bank stage₀ done₀ out stage done = Stretching s pool out₀ frames out stage done

@@ -1,0 +1,7 @@
+mod Past
+pub mod Held
+pub mod Loaded
+pub mod Retired
+pub mod Opened
+pub mod Kept
+pub mod Spent

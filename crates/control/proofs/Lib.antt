@@ -1,0 +1,3 @@
+pub mod Kept
+pub mod Capture
+pub mod Apply
