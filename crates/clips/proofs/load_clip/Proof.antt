@@ -31,7 +31,11 @@ add-serial : tie.Need-add-serial
 add-serial c = omega (arith, c .before .before .before .before .before .before .before .before .before .before .before .pre .1, c .struct-known)
 
 place-requires : tie.Need-place-requires
-place-requires c κs = let u = c .before .before .before .before .before .before .before .before .before .before .before .args .s .bank .used in let l = free-slot u (omega (arith, c .struct-known)) (c .before .before .before .before .before .before .before .before .before .before .before .pre .0) in rw (c .before .free-slot .ensures) (l, free-slot-free u (omega (arith, c .struct-known)) l)
+place-requires c κs =
+    let start = c .before .before .before .before .before .before .before .before .before .before .before in
+    let used = start .args .s .bank .used in
+    let among = free-slot used (omega (arith, c .struct-known)) (start .pre .0) in
+    rw (c .before .free-slot .ensures) (among, free-slot-free used (omega (arith, c .struct-known)) among)
 
 same-length : tie.Need-same-length
 same-length c = search needs

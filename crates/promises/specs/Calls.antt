@@ -1,0 +1,148 @@
+-- Every call on a session and its lent stores, as one step: what it says, and what it leaves. Definitions only.
+use mathlib.Core.List.{List, [], _∷_, _++_}
+use Prim.Native.Nat.{ℕ}
+use lib.Ieee.{Float}
+use Rattle.counts.specs.declared.SongFrame.{SongFrame}
+use Rattle.counts.specs.declared.Handle.{Handle}
+use Rattle.timeline.specs.declared.Submission.{Submission}
+use Rattle.transport.specs.declared.At.{At}
+use Rattle.bank.specs.declared.Kind.{Kind}
+use Rattle.stage.specs.declared.Settings.{Settings}
+use Rattle.session.specs.declared.Session.{Session}
+use Rattle.session.specs.Answer.{Says, refused, gives, says}
+use Rattle.block.specs.Block.{blockOf}
+use Rattle.clips.specs.Answer.{saysLoad}
+use Rattle.clips.specs.Open.{openOf}
+use Rattle.clips.specs.Load.{loadOf}
+use Rattle.clips.specs.Retire.{retireOf}
+use Rattle.submission.specs.Answer.{saysSubmit, saysReplay}
+use Rattle.submission.specs.Submit.{submitOf}
+use Rattle.submission.specs.Transition.{transitionOf}
+use Rattle.submission.specs.Replay.{replayOf}
+use Rattle.control.specs.declared.PerformanceSnapshot.{PerformanceSnapshot}
+use Rattle.control.specs.Answer.{saysStop, saysSnapshot, saysMetrics}
+use Rattle.control.specs.Capture.{startCaptureOf, stopCaptureOf}
+use Rattle.control.specs.Snapshot.{snapshotOf, applyOf}
+use Rattle.control.specs.Metrics.{metricsOf}
+
+-- a session with its stores as the call before left them
+pub record State : Type 0 where
+  pub session : Session
+  pub queue : List ℕ
+  pub capture : List ℕ
+  pub pool : List Float
+
+-- a state of its parts
+abbrev pub state : Session → List ℕ → List ℕ → List Float → State
+state s q c p = record { session = s; queue = q; capture = c; pool = p }
+
+-- the stores as they were, with another session
+abbrev pub withSession : State → Session → State
+withSession x s = state s (x .queue) (x .capture) (x .pool)
+
+-- the calls on a session, with what each is given
+pub data Call : Type 0 where
+  load : List Float → Kind → ℕ → Call
+  retire : Handle → Call
+  submit : Submission → At → Call
+  transition : SongFrame → At → Call
+  block : List Float → Call
+  startCapture : Call
+  stopCapture : List ℕ → Call
+  replay : List ℕ → Call
+  snapshot : Call
+  apply : PerformanceSnapshot → Call
+  metrics : Call
+
+-- the number of the refusal, 0 for none
+abbrev pub code : {A : Type 0} → Says A → ℕ
+code (refused k) = k
+code (gives v) = 0
+
+-- a call: the number of its refusal, and the state that it leaves
+abbrev pub step : Call → State → ℕ × State
+step (load samples kind rate) x =
+    let o = loadOf (x .session) (x .queue) (x .capture) (x .pool) samples kind rate in
+    (code (saysLoad (o .0 .answer)), state (o .0 .session) (x .queue) (x .capture) (o .1))
+step (retire h) x =
+    let o = retireOf (x .session) (x .queue) (x .capture) h in
+    (code (says (o .answer)), withSession x (o .session))
+step (submit y at) x =
+    let o = submitOf (x .session) (x .queue) (x .capture) y at in
+    (code (saysSubmit (o .0 .answer)), state (o .0 .session) (o .1) (o .2) (x .pool))
+step (transition f at) x =
+    let o = transitionOf (x .session) (x .queue) (x .capture) f at in
+    (code (saysSubmit (o .0 .answer)), state (o .0 .session) (o .1) (o .2) (x .pool))
+step (block out) x =
+    let o = blockOf (x .session) (x .queue) (x .capture) (x .pool) out in
+    (code (says (o .0 .answer)), withSession x (o .0 .session))
+step startCapture x =
+    let o = startCaptureOf (x .session) (x .queue) (x .capture) in
+    (code (says (o .answer)), withSession x (o .session))
+step (stopCapture list) x =
+    let o = stopCaptureOf (x .session) (x .queue) (x .capture) list in
+    (code (saysStop (o .0 .answer)), withSession x (o .0 .session))
+step (replay list) x =
+    let o = replayOf (x .session) (x .queue) (x .capture) list in
+    (code (saysReplay (o .0 .answer)), state (o .0 .session) (o .1) (x .capture) (x .pool))
+step snapshot x =
+    let o = snapshotOf (x .session) (x .queue) (x .capture) in
+    (code (saysSnapshot (o .answer)), withSession x (o .session))
+step (apply y) x =
+    let o = applyOf (x .session) (x .queue) (x .capture) y in
+    (code (says (o .answer)), withSession x (o .session))
+step metrics x =
+    let o = metricsOf (x .session) (x .queue) (x .capture) in
+    (code (saysMetrics (o .answer)), withSession x (o .session))
+
+-- the number of its refusal alone
+abbrev pub refusal : Call → State → ℕ
+refusal k x = step k x .0
+
+-- the state after it alone
+abbrev pub after : Call → State → State
+after k x = step k x .1
+
+-- what a block leaves in its output
+abbrev pub outOf : State → List Float → List Float
+outOf x out = blockOf (x .session) (x .queue) (x .capture) (x .pool) out .1
+
+-- what is heard of a call: of a block its output, else nothing
+abbrev pub heard : Call → State → List Float
+heard (load samples kind rate) x = []
+heard (retire h) x = []
+heard (submit y at) x = []
+heard (transition f at) x = []
+heard (block out) x = outOf x out
+heard startCapture x = []
+heard (stopCapture list) x = []
+heard (replay list) x = []
+heard snapshot x = []
+heard (apply y) x = []
+heard metrics x = []
+
+-- calls one after the other: what they leave
+abbrev pub afterAll : List Call → State → State
+afterAll [] x = x
+afterAll (k ∷ ks) x = afterAll ks (after k x)
+
+-- what is heard of them all, in order
+abbrev pub heardAll : List Call → State → List Float
+heardAll [] x = []
+heardAll (k ∷ ks) x = heard k x ++ heardAll ks (after k x)
+
+-- what opening is given
+pub record Opening : Type 0 where
+  pub settings : Settings
+  pub queue : List ℕ
+  pub capture : List ℕ
+  pub pool : List Float
+  pub samples : List Float
+  pub rate : ℕ
+  pub extent : SongFrame
+
+-- the number of its refusal, and the state that it leaves
+abbrev pub opened : Opening → ℕ × State
+opened o =
+    let r = openOf (o .settings) (o .queue) (o .capture) (o .pool) (o .samples) (o .rate) (o .extent) in
+    (code (saysLoad (r .0 .answer)), state (r .0 .session) (o .queue) (o .capture) (r .1))
