@@ -1,0 +1,52 @@
+//! Names tono's files below `TONO_SRC` as modules, so that they are compiled from where they lie.
+//! What it writes holds their paths alone: nothing of tono enters the repository.
+
+use std::path::{Path, PathBuf};
+use std::{env, fs};
+
+/// Where tono's sources lie, seen from the repository's root, if `TONO_SRC` does not say.
+const DEFAULT_SRC: &str = "../shared/docs/src";
+
+const CORE: &str = "crates/tono-core/src";
+
+/// The files of tono's core that stand at the crate's root.
+const ROOT: [&str; 1] = ["player"];
+
+/// The files of tono's core that stand in its `runtime`.
+const RUNTIME: [&str; 7] = [
+    "oneshot",
+    "performance",
+    "ramp",
+    "ring",
+    "source",
+    "timeline",
+    "transport",
+];
+
+fn main() {
+    println!("cargo::rerun-if-env-changed=TONO_SRC");
+    let repository = Path::new(env!("CARGO_MANIFEST_DIR")).join("..");
+    let named = env::var("TONO_SRC").unwrap_or_else(|_| DEFAULT_SRC.to_string());
+    let core = repository.join(named).join(CORE);
+    declare(&core, &ROOT, "tono_root.rs");
+    declare(&core.join("runtime"), &RUNTIME, "tono_runtime.rs");
+}
+
+/// Writes a file of module declarations, one for each of tono's files in this folder.
+fn declare(folder: &Path, modules: &[&str], written: &str) {
+    let mut declarations = String::new();
+    for module in modules {
+        let file = folder.join(module).with_extension("rs");
+        println!("cargo::rerun-if-changed={}", file.display());
+        let Ok(file) = file.canonicalize() else {
+            println!(
+                "cargo::error=tono's file {} is not there: TONO_SRC must name the folder that holds tono's `crates`",
+                file.display()
+            );
+            continue;
+        };
+        declarations += &format!("#[allow(dead_code)]\n#[path = {file:?}]\npub mod {module};\n\n");
+    }
+    let out = PathBuf::from(env::var("OUT_DIR").expect("cargo names OUT_DIR"));
+    fs::write(out.join(written), declarations).expect("OUT_DIR can be written");
+}
