@@ -1,8 +1,8 @@
 -- Safe, and ends. Assumes nothing.
 use Prim.Native.Nat.{_-_, _≤_}
 use borrow.Author.Needs.{needs}
-use Rattle.numbers.proofs.pool.Statement.{statement}
-use Rattle.numbers.proofs.pool.Tie as tie
+use Rattle.numbers.proofs.blocks.pool.Statement.{statement}
+use Rattle.numbers.proofs.blocks.pool.Tie as tie
 
 abbrev Inv-loop : tie.InvT-loop
 Inv-loop all₀ i₀ all i = i ≤ 2400

@@ -1,20 +1,17 @@
 -- Safe, and ends. Assumes nothing.
-use Prim.Native.Nat.{_-_, _≤_}
+use Prim.Native.Nat.{_-_}
 use borrow.Author.Needs.{needs}
-use Rattle.numbers.proofs.voices_end.Statement.{statement}
-use Rattle.numbers.proofs.voices_end.Tie as tie
+use Rattle.numbers.proofs.print.samples.Statement.{statement}
+use Rattle.numbers.proofs.print.samples.Tie as tie
 
 abbrev Inv-loop : tie.InvT-loop
-Inv-loop pool s₀ i₀ s i = i ≤ 17
+Inv-loop out from to i₀ t5 i = Unit {0}
 
 abbrev μ-loop : tie.MeasureT-loop
-μ-loop pool s₀ i₀ s i = 17 - i
+μ-loop out from to i₀ t5 i = to - i
 
-sixteen-requires : tie.Need-sixteen-requires Inv-loop μ-loop
-sixteen-requires c κs = search needs
-
-session-requires : tie.Need-session-requires Inv-loop μ-loop
-session-requires c κs = search needs
+loop-holds : tie.Need-loop-holds Inv-loop μ-loop
+loop-holds c = search needs
 
 slice-aggregate-text : tie.Need-slice-aggregate-text Inv-loop μ-loop
 slice-aggregate-text c = search needs
@@ -22,11 +19,14 @@ slice-aggregate-text c = search needs
 text-requires : tie.Need-text-requires Inv-loop μ-loop
 text-requires c κs = search needs
 
-loop-holds : tie.Need-loop-holds Inv-loop μ-loop
-loop-holds c = search needs
+mul-sample : tie.Need-mul-sample Inv-loop μ-loop
+mul-sample c = search needs
 
-one-frame-requires : tie.Need-one-frame-requires Inv-loop μ-loop
-one-frame-requires c κs = search needs
+shared-slice-read-sample : tie.Need-shared-slice-read-sample Inv-loop μ-loop
+shared-slice-read-sample c = search needs
+
+sample-requires : tie.Need-sample-requires Inv-loop μ-loop
+sample-requires c κs = search needs
 
 add-i : tie.Need-add-i Inv-loop μ-loop
 add-i c = search needs
@@ -40,18 +40,18 @@ loop-again c = search needs
 returns : tie.Need-returns Inv-loop μ-loop
 returns c = search needs
 
-pub voices-end-spec : {M : Type 1} → statement M
-voices-end-spec =
+pub samples-spec : {M : Type 1} → statement M
+samples-spec =
     tie.close
     (tie.spec
     Inv-loop
     μ-loop
-    sixteen-requires
-    session-requires
+    loop-holds
     slice-aggregate-text
     text-requires
-    loop-holds
-    one-frame-requires
+    mul-sample
+    shared-slice-read-sample
+    sample-requires
     add-i
     loop-less
     loop-again

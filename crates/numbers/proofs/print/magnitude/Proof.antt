@@ -2,8 +2,8 @@
 use lib.Ieee.{ofBits, neg}
 use borrow.Author.Needs.{needs}
 use Rattle.counts.proofs.Truth.{T-is}
-use Rattle.numbers.proofs.magnitude.Statement.{statement}
-use Rattle.numbers.proofs.magnitude.Tie as tie
+use Rattle.numbers.proofs.print.magnitude.Statement.{statement}
+use Rattle.numbers.proofs.print.magnitude.Tie as tie
 
 truncating-f32-to-u64-requires : tie.Need-truncating-f32-to-u64-requires
 unfolding ofBits neg

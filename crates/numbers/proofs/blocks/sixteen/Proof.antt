@@ -1,8 +1,8 @@
 -- Safe, and ends. Assumes nothing.
 use Prim.Native.Nat.{_-_, _≤_}
 use borrow.Author.Needs.{needs}
-use Rattle.numbers.proofs.sixteen.Statement.{statement}
-use Rattle.numbers.proofs.sixteen.Tie as tie
+use Rattle.numbers.proofs.blocks.sixteen.Statement.{statement}
+use Rattle.numbers.proofs.blocks.sixteen.Tie as tie
 
 abbrev Inv-loop : tie.InvT-loop
 Inv-loop full voices₀ i₀ voices i = i ≤ 16

@@ -1,0 +1,492 @@
+//! Each refusal number once, at a call: 'Each gives its number alone; all lent stores and the session stay, save 15.'
+use crate::print::text;
+use bank::Kind;
+use clips::LoadAnswer;
+use clips::LoadAnswered;
+use control::PerformanceSnapshot;
+use counts::ClockFrame;
+use counts::Handle;
+use counts::SongFrame;
+use session::Session;
+use stage::Settings;
+use submission::SubmitAnswered;
+use timeline::Row;
+use timeline::Submission;
+use transport::At;
+use transport::LoopRange;
+use transport::TransportState;
+
+const RATE: u32 = 48000;
+
+/// A queue of 2, a capture of 1, a pool of 8 frames.
+const SMALL: Settings = Settings {
+    rate: RATE,
+    queue: 2,
+    capture: 1,
+    pool: 8,
+};
+
+/// A session that opens with a song of two frames, in slot 0.
+pub fn opened(settings: Settings, queue: &[u64], capture: &[u64], pool: &mut [f32]) -> Session {
+    let song = [0.5, -0.5, 0.25, 0.25];
+    let r = clips::open(settings, queue, capture, pool, &song, RATE, SongFrame(2));
+    r.session
+}
+
+/// The handle that a load gave.
+pub fn handle_of(a: LoadAnswer) -> Handle {
+    match a {
+        LoadAnswer::Loaded(h) => h,
+        LoadAnswer::Refused(_) => Handle { slot: 0, serial: 0 },
+    }
+}
+
+// ---- what a refused call is told by
+
+/// A load: its answer, and whether session and pool are as they were.
+fn load_told(s: Session, r: LoadAnswered, pool: &[f32], was: &[f32]) {
+    let a = r.answer;
+    let after = r.session;
+    crate::print::load_answer(a);
+    crate::print::kept(crate::same::session(s, after) & crate::same::samples(pool, was));
+}
+
+/// A load into the pool of 8 frames.
+fn load(s: Session, queue: &[u64], capture: &[u64], pool: [f32; 16], samples: &[f32], rate: u32) {
+    let mut lent = pool;
+    let r = clips::load(s, queue, capture, &mut lent, samples, Kind::Stinger, rate);
+    load_told(s, r, &lent, &pool);
+}
+
+/// A load into a pool of 40 frames.
+fn load_forty(s: Session, queue: &[u64], capture: &[u64], pool: [f32; 80]) {
+    let mut lent = pool;
+    let click = [0.25, 0.25];
+    let r = clips::load(s, queue, capture, &mut lent, &click, Kind::Stinger, RATE);
+    load_told(s, r, &lent, &pool);
+}
+
+/// A submission: its answer, and whether session, queue and capture are as they were.
+fn submit_told(
+    s: Session,
+    r: SubmitAnswered,
+    queue: &[u64],
+    queue_was: &[u64],
+    capture: &[u64],
+    capture_was: &[u64],
+) {
+    let a = r.answer;
+    let after = r.session;
+    crate::print::submit_answer(a);
+    crate::print::kept(
+        crate::same::session(s, after)
+            & crate::same::words(queue, queue_was)
+            & crate::same::words(capture, capture_was),
+    );
+}
+
+/// A submission at once to the queue of 2.
+fn submit(s: Session, queue: [u64; 10], capture: [u64; 5], x: Submission) {
+    let mut lent = queue;
+    let mut also = capture;
+    let r = submission::submit(s, &mut lent, &mut also, x, At::Immediate);
+    submit_told(s, r, &lent, &queue, &also, &capture);
+}
+
+/// A submission at once to a queue of 17.
+fn submit_seventeen(s: Session, queue: [u64; 85], capture: [u64; 5], x: Submission) {
+    let mut lent = queue;
+    let mut also = capture;
+    let r = submission::submit(s, &mut lent, &mut also, x, At::Immediate);
+    submit_told(s, r, &lent, &queue, &also, &capture);
+}
+
+/// A submission that finds the queue full: '15: queue full; dropped count + 1'.
+pub fn full_told(
+    s: Session,
+    r: SubmitAnswered,
+    queue: &[u64],
+    queue_was: &[u64],
+    capture: &[u64],
+    capture_was: &[u64],
+) {
+    let a = r.answer;
+    let after = r.session;
+    crate::print::submit_answer(a);
+    text(b", dropped ");
+    let d = after.desk;
+    crate::print::number(d.dropped);
+    text(b", but for that");
+    crate::print::kept(
+        crate::same::session_but_dropped(s, after)
+            & crate::same::words(queue, queue_was)
+            & crate::same::words(capture, capture_was),
+    );
+}
+
+// ---- the numbers
+
+/// '1: session or its stores not well formed.' '2: lent pool has another length.'
+fn stores() {
+    let queue = [0; 10];
+    let short = [0; 5];
+    let capture = [0; 5];
+    let mut pool = [0.0; 16];
+    let s = opened(SMALL, &queue, &capture, &mut pool);
+    text(b"  metrics, lent a queue of 1 record where 2 are named: ");
+    let r = control::metrics(s, &short, &capture);
+    let a = r.answer;
+    let after = r.session;
+    crate::print::metrics_answer(a);
+    crate::print::kept(crate::same::session(s, after));
+    text(b"  load, lent a pool of 7 frames where 8 are named: ");
+    let mut other = [0.0; 14];
+    let was = other;
+    let click = [0.25, 0.25];
+    let l = clips::load(s, &queue, &capture, &mut other, &click, Kind::Stinger, RATE);
+    load_told(s, l, &other, &was);
+}
+
+/// '3: odd sample count.'
+fn odd() {
+    let queue = [0; 10];
+    let capture = [0; 5];
+    let mut pool = [0.0; 16];
+    let s = opened(SMALL, &queue, &capture, &mut pool);
+    let odd = [0.25; 3];
+    text(b"  load of 3 samples: ");
+    load(s, &queue, &capture, pool, &odd, RATE);
+}
+
+/// '4: block would pass clock 2^62.'
+fn clock() {
+    let queue = [0; 10];
+    let capture = [0; 5];
+    let mut pool = [0.0; 16];
+    let mut s = opened(SMALL, &queue, &capture, &mut pool);
+    let mut stage = s.stage;
+    let end = ClockFrame(4611686018427387904);
+    stage.clock = end;
+    s.stage = stage;
+    let mut out = [0.5; 2];
+    let was = out;
+    text(b"  a block of 1 at clock 2^62: ");
+    let r = block::block(s, &queue, &capture, &pool, &mut out);
+    let a = r.answer;
+    let after = r.session;
+    crate::print::answer(a);
+    crate::print::kept(crate::same::session(s, after) & crate::same::samples(&out, &was));
+}
+
+/// '5: clip without samples.' '6: sample not finite or above 16.' '7: clip rate (8,000 to 192,000) outside its range.'
+fn samples() {
+    let queue = [0; 10];
+    let capture = [0; 5];
+    let mut pool = [0.0; 16];
+    let s = opened(SMALL, &queue, &capture, &mut pool);
+    let none = [0.0; 0];
+    let loud = [0.25, 17.0];
+    let click = [0.25, 0.25];
+    text(b"  load of no samples: ");
+    load(s, &queue, &capture, pool, &none, RATE);
+    text(b"  load of a sample of 17: ");
+    load(s, &queue, &capture, pool, &loud, RATE);
+    text(b"  load at a rate of 7,999: ");
+    load(s, &queue, &capture, pool, &click, 7999);
+}
+
+/// A load of one frame.
+fn load_one(s: Session, queue: &[u64], capture: &[u64], pool: &mut [f32; 80]) -> Session {
+    let click = [0.25, 0.25];
+    let r = clips::load(s, queue, capture, pool, &click, Kind::Stinger, RATE);
+    r.session
+}
+
+/// So many of them.
+fn load_more(
+    s: Session,
+    queue: &[u64],
+    capture: &[u64],
+    pool: &mut [f32; 80],
+    more: u32,
+) -> Session {
+    let mut s = s;
+    let mut i: u32 = 0;
+    while i < more {
+        s = load_one(s, queue, capture, pool);
+        i += 1;
+    }
+    s
+}
+
+/// '8: 32 slots used.' The pool has 40 frames.
+fn slots() {
+    let settings = Settings {
+        rate: RATE,
+        queue: 2,
+        capture: 1,
+        pool: 40,
+    };
+    let queue = [0; 10];
+    let capture = [0; 5];
+    let mut pool = [0.0; 80];
+    let first = opened(settings, &queue, &capture, &mut pool);
+    let s = load_more(first, &queue, &capture, &mut pool, 31);
+    text(b"  load when 32 slots are used: ");
+    load_forty(s, &queue, &capture, pool);
+}
+
+/// '9: serials spent.'
+fn serials() {
+    let queue = [0; 10];
+    let capture = [0; 5];
+    let mut pool = [0.0; 16];
+    let mut s = opened(SMALL, &queue, &capture, &mut pool);
+    let mut bank = s.bank;
+    bank.last = 4294967295;
+    s.bank = bank;
+    let click = [0.25, 0.25];
+    text(b"  load when serial 4,294,967,295 is given: ");
+    load(s, &queue, &capture, pool, &click, RATE);
+}
+
+/// '10: no start in the pool fits.'
+fn room() {
+    let queue = [0; 10];
+    let capture = [0; 5];
+    let mut pool = [0.0; 16];
+    let s = opened(SMALL, &queue, &capture, &mut pool);
+    let long = [0.25; 14];
+    text(b"  load of 7 frames where 6 are free: ");
+    load(s, &queue, &capture, pool, &long, RATE);
+}
+
+/// '11: stale handle.' '12: song where a stinger is due, or the reverse.' '13: clip rate is not the session's.'
+/// '14: gain not finite; stinger gain above 16.'
+fn handles() {
+    let queue = [0; 10];
+    let capture = [0; 5];
+    let mut pool = [0.0; 16];
+    let first = opened(SMALL, &queue, &capture, &mut pool);
+    let song = first.song();
+    let slow = [0.25, 0.25];
+    let lasts = Kind::Song(SongFrame(1));
+    let r = clips::load(first, &queue, &capture, &mut pool, &slow, lasts, 44100);
+    let a = r.answer;
+    let other = handle_of(a);
+    let s = r.session;
+    let unknown = Handle { slot: 0, serial: 7 };
+    text(b"  a swap to slot 0 serial 7, which was never given: ");
+    submit(s, queue, capture, Submission::Swap(unknown));
+    text(b"  a stinger of a song: ");
+    submit(s, queue, capture, Submission::Stinger(song, 1.0));
+    text(b"  a swap to a song of 44,100: ");
+    submit(s, queue, capture, Submission::Swap(other));
+    text(b"  a stinger at gain 17: ");
+    submit(s, queue, capture, Submission::Stinger(song, 17.0));
+}
+
+/// '14: snapshot gain outside 0..2.'
+fn snapshot_gain() {
+    let queue = [0; 10];
+    let capture = [0; 5];
+    let mut pool = [0.0; 16];
+    let s = opened(SMALL, &queue, &capture, &mut pool);
+    let x = PerformanceSnapshot {
+        position: SongFrame(1),
+        state: TransportState::Playing,
+        gain: 2.5,
+        looped: LoopRange::Off,
+    };
+    text(b"  a snapshot of gain 2.5: ");
+    let r = control::apply_snapshot(s, &queue, &capture, x);
+    let a = r.answer;
+    let after = r.session;
+    crate::print::answer(a);
+    crate::print::kept(crate::same::session(s, after));
+}
+
+/// '15: queue full.'
+fn queue_full() {
+    let mut queue = [0; 10];
+    let mut capture = [0; 5];
+    let mut pool = [0.0; 16];
+    let s = opened(SMALL, &queue, &capture, &mut pool);
+    let now = At::Immediate;
+    let one = submission::submit(s, &mut queue, &mut capture, Submission::Play, now);
+    let first = one.session;
+    let two = submission::submit(first, &mut queue, &mut capture, Submission::Pause, now);
+    let full = two.session;
+    let q = queue;
+    let c = capture;
+    text(b"  a third command in a queue of 2: ");
+    let r = submission::submit(full, &mut queue, &mut capture, Submission::Play, now);
+    full_told(full, r, &queue, &q, &capture, &c);
+}
+
+/// '16: capture on and full.'
+fn captured() {
+    let mut queue = [0; 10];
+    let mut capture = [0; 5];
+    let mut pool = [0.0; 16];
+    let s = opened(SMALL, &queue, &capture, &mut pool);
+    let on = control::start_capture(s, &queue, &capture);
+    let now = At::Immediate;
+    let one = submission::submit(on.session, &mut queue, &mut capture, Submission::Play, now);
+    let full = one.session;
+    text(b"  a second command in a capture of 1: ");
+    submit(full, queue, capture, Submission::Pause);
+}
+
+/// A stinger at frame 9.
+fn ring(s: Session, queue: &mut [u64; 85], capture: &mut [u64; 5], bell: Handle) -> Session {
+    let x = Submission::Stinger(bell, 1.0);
+    let r = submission::submit(s, queue, capture, x, At::Frame(ClockFrame(9)));
+    r.session
+}
+
+/// So many of them.
+fn ring_all(
+    s: Session,
+    queue: &mut [u64; 85],
+    capture: &mut [u64; 5],
+    bell: Handle,
+    times: u32,
+) -> Session {
+    let mut s = s;
+    let mut i: u32 = 0;
+    while i < times {
+        s = ring(s, queue, capture, bell);
+        i += 1;
+    }
+    s
+}
+
+/// '17: a stinger while queued stingers + sounding voices = 16.' The queue holds 17.
+fn stingers() {
+    let settings = Settings {
+        rate: RATE,
+        queue: 17,
+        capture: 1,
+        pool: 8,
+    };
+    let mut queue = [0; 85];
+    let mut capture = [0; 5];
+    let mut pool = [0.0; 16];
+    let first = opened(settings, &queue, &capture, &mut pool);
+    let sound = [0.25, 0.25];
+    let l = clips::load(
+        first,
+        &queue,
+        &capture,
+        &mut pool,
+        &sound,
+        Kind::Stinger,
+        RATE,
+    );
+    let a = l.answer;
+    let bell = handle_of(a);
+    let s = ring_all(l.session, &mut queue, &mut capture, bell, 16);
+    text(b"  a stinger when 16 are queued: ");
+    submit_seventeen(s, queue, capture, Submission::Stinger(bell, 1.0));
+}
+
+/// '18: submission number 2^64 - 1 already given.'
+fn numbers() {
+    let queue = [0; 10];
+    let capture = [0; 5];
+    let mut pool = [0.0; 16];
+    let mut s = opened(SMALL, &queue, &capture, &mut pool);
+    let mut desk = s.desk;
+    desk.number = 18446744073709551615;
+    s.desk = desk;
+    text(b"  a command when number 2^64 - 1 is given: ");
+    submit(s, queue, capture, Submission::Play);
+}
+
+/// '19: clip held by song, tail, voice, queue or running capture.'
+fn song_held() {
+    let queue = [0; 10];
+    let capture = [0; 5];
+    let mut pool = [0.0; 16];
+    let s = opened(SMALL, &queue, &capture, &mut pool);
+    text(b"  retire of the song: ");
+    let r = clips::retire(s, &queue, &capture, s.song());
+    let a = r.answer;
+    let after = r.session;
+    crate::print::answer(a);
+    crate::print::kept(crate::same::session(s, after));
+}
+
+/// '20: list for captured records too short.'
+fn list_short() {
+    let mut queue = [0; 10];
+    let mut capture = [0; 5];
+    let mut pool = [0.0; 16];
+    let s = opened(SMALL, &queue, &capture, &mut pool);
+    let on = control::start_capture(s, &queue, &capture);
+    let now = At::Immediate;
+    let one = submission::submit(on.session, &mut queue, &mut capture, Submission::Play, now);
+    let full = one.session;
+    let mut list = [7; 4];
+    let was = list;
+    text(b"  stop capture of 1 record into a list of 4 words: ");
+    let r = control::stop_capture(full, &queue, &capture, &mut list);
+    let a = r.answer;
+    let after = r.session;
+    crate::print::stop_answer(a);
+    crate::print::kept(crate::same::session(full, after) & crate::same::words(&list, &was));
+}
+
+fn row(at: u64, kind: u64) -> Row {
+    Row {
+        at: at,
+        number: 1,
+        kind: kind,
+        first: 0,
+        second: 0,
+    }
+}
+
+/// '21: replayed record unreadable (seen only as a skip).' 'It reports taken, queue-full and otherwise skipped.'
+fn unreadable() {
+    let mut queue = [0; 10];
+    let capture = [0; 5];
+    let mut pool = [0.0; 16];
+    let s = opened(SMALL, &queue, &capture, &mut pool);
+    let mut list = [0; 20];
+    timeline::put_row(&mut list, 0, row(8, 1));
+    timeline::put_row(&mut list, 1, row(8, 11));
+    timeline::put_row(&mut list, 2, row(4, 2));
+    timeline::put_row(&mut list, 3, row(2, 3));
+    text(b"  replay of 4 records into a queue of 2, the second of kind 11, which is 21: ");
+    let r = submission::replay(s, &mut queue, &capture, &list);
+    let a = r.answer;
+    let after = r.session;
+    crate::print::replay_answer(a);
+    text(b"\n    then metrics: ");
+    let m = control::metrics(after, &queue, &capture);
+    let b = m.answer;
+    crate::print::metrics_answer(b);
+    text(b"\n");
+}
+
+pub fn all() {
+    text(b"each refusal number, at a call that meets it\n");
+    stores();
+    odd();
+    clock();
+    samples();
+    slots();
+    serials();
+    room();
+    handles();
+    snapshot_gain();
+    queue_full();
+    captured();
+    stingers();
+    numbers();
+    song_held();
+    list_short();
+    unreadable();
+}
