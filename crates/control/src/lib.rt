@@ -49,6 +49,7 @@ pub struct SnapshotAnswered {
 }
 
 /// Frames rendered, commands executed and dropped, the deepest queue, swaps and stingers fired.
+#[repr(C)]
 pub struct PerformanceMetrics {
     pub rendered: u64,
     pub executed: u64,

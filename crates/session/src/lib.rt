@@ -219,7 +219,7 @@ pub fn extent_now(s: Session) -> SongFrame
 }
 
 /// One more, held at 2^64 - 1.
-fn one_more(n: u64) -> u64
+pub fn one_more(n: u64) -> u64
     ensures { λ r. ⌜ r ≡ min (n + 1) (2 ^ 64 - 1) ⌝ }
 {
     if n < LAST { n + 1 } else { LAST }

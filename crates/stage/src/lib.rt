@@ -37,6 +37,7 @@ pub const SWAP_FADE_FRAMES: u32 = 1024;
 pub const GAIN_RAMP_FRAMES: u32 = 256;
 
 /// Fixed at opening: the rate, how many records the queue and the capture hold, and the pool's frames.
+#[repr(C)]
 pub struct Settings {
     pub rate: u32,
     pub queue: usize,
@@ -320,6 +321,7 @@ fn tail_from(playhead: Playhead) -> Fade
 }
 
 /// Commands executed, and of them the swaps and the stingers fired.
+#[repr(C)]
 pub struct Counters {
     pub executed: u64,
     pub swaps: u64,

@@ -60,6 +60,7 @@ pub struct SubmitAnswered {
 }
 
 /// What a replay did with its records: taken, queue-full, otherwise skipped.
+#[repr(C)]
 pub struct Report {
     pub taken: usize,
     pub full: usize,

@@ -1,0 +1,197 @@
+-- Answers as a host reads them: 0 or the refusal's number, what the call gives, and the session. Definitions only.
+use Prim.Native.Nat.{ℕ, zero, suc, _+_, _-_, _^_, min}
+use mathlib.Core.Bool.{Bool, cond}
+use mathlib.Core.List.{List}
+use lib.Dec.{eqb}
+use Rattle.counts.specs.declared.Handle.{Handle}
+use Rattle.ramp.specs.Number.{zero32}
+use Rattle.session.specs.declared.Answer.{Answer}
+use Rattle.session.specs.declared.Answered.{Answered}
+use Rattle.session.specs.Refusal.{numberOf}
+use Rattle.session.specs.WellFormed.{wellFormed}
+use Rattle.clips.specs.declared.LoadAnswer.{LoadAnswer}
+use Rattle.clips.specs.declared.LoadAnswered.{LoadAnswered}
+use Rattle.submission.specs.declared.Report.{Report}
+use Rattle.submission.specs.declared.SubmitAnswer.{SubmitAnswer}
+use Rattle.submission.specs.declared.SubmitAnswered.{SubmitAnswered}
+use Rattle.submission.specs.declared.ReplayAnswer.{ReplayAnswer}
+use Rattle.submission.specs.declared.ReplayAnswered.{ReplayAnswered}
+use Rattle.submission.specs.Replay.{reportOf}
+use Rattle.control.specs.declared.PerformanceMetrics.{PerformanceMetrics}
+use Rattle.control.specs.declared.StopAnswer.{StopAnswer}
+use Rattle.control.specs.declared.StopAnswered.{StopAnswered}
+use Rattle.control.specs.declared.SnapshotAnswer.{SnapshotAnswer}
+use Rattle.control.specs.declared.SnapshotAnswered.{SnapshotAnswered}
+use Rattle.control.specs.declared.MetricsAnswer.{MetricsAnswer}
+use Rattle.control.specs.declared.MetricsAnswered.{MetricsAnswered}
+use Rattle.host.specs.declared.HostSession.{HostSession}
+use Rattle.host.specs.declared.HostSnapshot.{HostSnapshot}
+use Rattle.host.specs.declared.HostAnswered.{HostAnswered}
+use Rattle.host.specs.declared.HostLoaded.{HostLoaded}
+use Rattle.host.specs.declared.HostSubmitted.{HostSubmitted}
+use Rattle.host.specs.declared.HostReplayed.{HostReplayed}
+use Rattle.host.specs.declared.HostStopped.{HostStopped}
+use Rattle.host.specs.declared.HostSnapped.{HostSnapped}
+use Rattle.host.specs.declared.HostMetrics.{HostMetrics}
+use Rattle.host.specs.Kept.{isSession, sessionOf, hostOf}
+use Rattle.host.specs.Arguments.{snapshotNumbers}
+
+-- the same with another dropped count
+abbrev pub withDropped : HostSession → ℕ → HostSession
+withDropped h n =
+    record {
+      settings = h .settings;
+      used = h .used;
+      last = h .last;
+      clips = h .clips;
+      clock = h .clock;
+      state = h .state;
+      position = h .position;
+      cursor = h .cursor;
+      looped = h .looped;
+      song = h .song;
+      master = h .master;
+      tail = h .tail;
+      voices = h .voices;
+      counters = h .counters;
+      queued = h .queued;
+      number = h .number;
+      deepest = h .deepest;
+      dropped = n;
+      capturing = h .capturing;
+      captured = h .captured;
+    }
+
+-- a refused call hands back the very session that came; 15 alone counts, and stops at 2^64 - 1
+unfoldable pub turned : ℕ → HostSession → HostSession
+turned n h = cond (eqb n 15) (withDropped h (min (h .dropped + 1) (2 ^ 64 - 1))) h
+
+-- 1 if no session matches; of an argument that names no case 1 if the session is not well formed, else the host's own 22; else 0
+unfoldable pub weighHost : HostSession → List ℕ → List ℕ → Bool → ℕ
+weighHost h q c named = cond (isSession h) (cond named 0 (cond (wellFormed (sessionOf h) q c) 22 1)) 1
+
+-- what a call gives: something for its number, or for 0 what it does
+unfoldable pub unless {ℓ} : {A : Type ℓ} → ℕ → (ℕ → A) → A → A
+unless zero refused done = done
+unless (suc n) refused done = refused (suc n)
+
+-- no clip
+abbrev pub noHandle : Handle
+noHandle = record { slot = 0; serial = 0 }
+
+-- ---- no value: retire, block, start capture, apply snapshot
+
+abbrev pub answered : ℕ → HostSession → HostAnswered
+answered n h = record { refusal = n; session = h }
+
+abbrev pub refused : HostSession → ℕ → HostAnswered
+refused h n = answered n (turned n h)
+
+abbrev pub answeredWith : HostSession → Answer → HostSession → HostAnswered
+answeredWith h Answer.Done t = answered 0 t
+answeredWith h (Answer.Refused k) t = refused h (numberOf k)
+
+abbrev pub answeredBy : HostSession → Answered → HostAnswered
+answeredBy h r = answeredWith h (r .answer) (hostOf (r .session))
+
+-- ---- a handle: open, load
+
+abbrev pub loaded : ℕ → Handle → HostSession → HostLoaded
+loaded n x h = record { refusal = n; handle = x; session = h }
+
+abbrev pub loadRefused : HostSession → ℕ → HostLoaded
+loadRefused h n = loaded n noHandle (turned n h)
+
+abbrev pub loadedWith : HostSession → LoadAnswer → HostSession → HostLoaded
+loadedWith h (LoadAnswer.Loaded x) t = loaded 0 x t
+loadedWith h (LoadAnswer.Refused k) t = loadRefused h (numberOf k)
+
+abbrev pub loadedBy : HostSession → LoadAnswered → HostLoaded
+loadedBy h r = loadedWith h (r .answer) (hostOf (r .session))
+
+-- a refused opening has no session to hand back but the one that every call refuses
+abbrev pub openedBy : LoadAnswered → HostLoaded
+openedBy r = loadedBy (hostOf (r .session)) r
+
+-- ---- a submission number: submit, transition
+
+abbrev pub submitted : ℕ → ℕ → HostSession → HostSubmitted
+submitted n x h = record { refusal = n; number = x; session = h }
+
+abbrev pub submitRefused : HostSession → ℕ → HostSubmitted
+submitRefused h n = submitted n 0 (turned n h)
+
+abbrev pub submittedWith : HostSession → SubmitAnswer → HostSession → HostSubmitted
+submittedWith h (SubmitAnswer.Queued x) t = submitted 0 x t
+submittedWith h (SubmitAnswer.Refused k) t = submitRefused h (numberOf k)
+
+abbrev pub submittedBy : HostSession → SubmitAnswered → HostSubmitted
+submittedBy h r = submittedWith h (r .answer) (hostOf (r .session))
+
+-- ---- a report: replay
+
+abbrev pub replayed : ℕ → Report → HostSession → HostReplayed
+replayed n x h = record { refusal = n; report = x; session = h }
+
+abbrev pub replayRefused : HostSession → ℕ → HostReplayed
+replayRefused h n = replayed n (reportOf 0 0 0) (turned n h)
+
+abbrev pub replayedWith : HostSession → ReplayAnswer → HostSession → HostReplayed
+replayedWith h (ReplayAnswer.Replayed x) t = replayed 0 x t
+replayedWith h (ReplayAnswer.Refused k) t = replayRefused h (numberOf k)
+
+abbrev pub replayedBy : HostSession → ReplayAnswered → HostReplayed
+replayedBy h r = replayedWith h (r .answer) (hostOf (r .session))
+
+-- ---- how many records: stop capture
+
+abbrev pub stopped : ℕ → ℕ → HostSession → HostStopped
+stopped n x h = record { refusal = n; copied = x; session = h }
+
+abbrev pub stopRefused : HostSession → ℕ → HostStopped
+stopRefused h n = stopped n 0 (turned n h)
+
+abbrev pub stoppedWith : HostSession → StopAnswer → HostSession → HostStopped
+stoppedWith h (StopAnswer.Copied x) t = stopped 0 x t
+stoppedWith h (StopAnswer.Refused k) t = stopRefused h (numberOf k)
+
+abbrev pub stoppedBy : HostSession → StopAnswered → HostStopped
+stoppedBy h r = stoppedWith h (r .answer) (hostOf (r .session))
+
+-- ---- a snapshot
+
+abbrev pub snapped : ℕ → HostSnapshot → HostSession → HostSnapped
+snapped n x h = record { refusal = n; snapshot = x; session = h }
+
+-- position 0, stopped, gain 0, no loop
+abbrev pub noSnapshot : HostSnapshot
+noSnapshot =
+    record { position = record { 0 = 0 }; state = 0; gain = zero32; looped = record { set = 0; start = record { 0 = 0 }; end = record { 0 = 0 } } }
+
+abbrev pub snapshotRefused : HostSession → ℕ → HostSnapped
+snapshotRefused h n = snapped n noSnapshot (turned n h)
+
+abbrev pub snappedWith : HostSession → SnapshotAnswer → HostSession → HostSnapped
+snappedWith h (SnapshotAnswer.Taken x) t = snapped 0 (snapshotNumbers x) t
+snappedWith h (SnapshotAnswer.Refused k) t = snapshotRefused h (numberOf k)
+
+abbrev pub snappedBy : HostSession → SnapshotAnswered → HostSnapped
+snappedBy h r = snappedWith h (r .answer) (hostOf (r .session))
+
+-- ---- metrics
+
+abbrev pub metered : ℕ → PerformanceMetrics → HostSession → HostMetrics
+metered n x h = record { refusal = n; metrics = x; session = h }
+
+abbrev pub noMetrics : PerformanceMetrics
+noMetrics = record { rendered = 0; executed = 0; dropped = 0; deepest = 0; swaps = 0; fired = 0 }
+
+abbrev pub metricsRefused : HostSession → ℕ → HostMetrics
+metricsRefused h n = metered n noMetrics (turned n h)
+
+abbrev pub meteredWith : HostSession → MetricsAnswer → HostSession → HostMetrics
+meteredWith h (MetricsAnswer.Read x) t = metered 0 x t
+meteredWith h (MetricsAnswer.Refused k) t = metricsRefused h (numberOf k)
+
+abbrev pub meteredBy : HostSession → MetricsAnswered → HostMetrics
+meteredBy h r = meteredWith h (r .answer) (hostOf (r .session))

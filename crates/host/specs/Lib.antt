@@ -1,0 +1,4 @@
+pub mod Kept
+pub mod Arguments
+pub mod Answers
+pub mod Calls
