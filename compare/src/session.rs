@@ -107,8 +107,13 @@ impl Session {
     /// The next frames, interleaved.
     pub fn block(&mut self, frames: usize) -> Vec<f32> {
         let mut out = vec![f32::NAN; frames * 2];
-        self.0.fill(&mut out);
+        self.fill(&mut out);
         out
+    }
+
+    /// The next frames, into an output that is there.
+    pub fn fill(&mut self, out: &mut [f32]) {
+        self.0.fill(out);
     }
 
     pub fn start_capture(&mut self) {
