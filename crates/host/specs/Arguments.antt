@@ -1,5 +1,4 @@
 -- What the numbers of an argument name. Definitions only.
-use Prim.Native.Nat.{ℕ}
 use mathlib.Core.Bool.{Bool, not, _&&_, cond}
 use lib.Dec.{eqb}
 use Rattle.counts.specs.Below.{within}

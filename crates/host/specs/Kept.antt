@@ -1,6 +1,6 @@
 -- A session as a host keeps it: each case is a number. Definitions only.
 use Prim.Native.Nat.{ℕ}
-use mathlib.Core.Bool.{Bool, true, false, _&&_, _||_, cond}
+use mathlib.Core.Bool.{Bool, _&&_, _||_, cond}
 use mathlib.Core.List.{map}
 use lib.Dec.{eqb, leb}
 use lib.ListN.{getD}
