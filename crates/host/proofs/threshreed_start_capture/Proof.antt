@@ -1,0 +1,41 @@
+-- `threshreed_start_capture` meets its contract: weighed, then called.
+use Rattle.host.specs.Calls.{startCaptureHost}
+use Rattle.host.proofs.Weighed.{call-refused, call-done}
+use borrow.Author.Needs.{needs}
+use Rattle.host.proofs.threshreed_start_capture.Statement.{statement}
+use Rattle.host.proofs.threshreed_start_capture.Tie as tie
+
+weigh-requires : tie.Need-weigh-requires
+weigh-requires c κs = search needs
+
+refused-requires : tie.Need-refused-requires
+refused-requires c κs = search needs
+
+returns : tie.Need-returns
+unfolding startCaptureHost
+returns c = call-refused _ _ _ _ (c .before .before .weigh .ensures) (c .before .if1 .taken) (rw (c .refused .ensures))
+
+session-of-requires : tie.Need-session-of-requires
+session-of-requires c κs = search needs
+
+start-capture-requires : tie.Need-start-capture-requires
+start-capture-requires c κs = search needs
+
+answered-requires : tie.Need-answered-requires
+answered-requires c κs = search needs
+
+returns-2 : tie.Need-returns-2
+unfolding startCaptureHost
+returns-2 c = call-done _ _ _ _ (c .before .before .before .before .weigh .ensures) (c .before .before .before .if1 .left) (rw (c .answered .ensures, ← c .before .before .session-of .ensures, ← c .before .start-capture .ensures))
+
+pub threshreed-start-capture-spec : {M : Type 1} → statement M
+threshreed-start-capture-spec =
+    tie.close
+    (tie.spec
+    weigh-requires
+    refused-requires
+    returns
+    session-of-requires
+    start-capture-requires
+    answered-requires
+    returns-2)
