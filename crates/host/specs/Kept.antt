@@ -161,3 +161,51 @@ hostOf s =
       capturing = flagNumber (s .desk .capturing);
       captured = s .desk .captured;
     }
+
+-- ---- what is not used is 0
+
+-- a stinger's length
+abbrev pub tidyClip : HostClip → HostClip
+tidyClip c =
+    record {
+      serial = c .serial;
+      kind = c .kind;
+      extent = cond (eqb (c .kind) 2) (record { 0 = 0 }) (c .extent);
+      start = c .start;
+      frames = c .frames;
+      rate = c .rate;
+    }
+
+-- the ends of a loop that is not set
+abbrev pub tidyLoop : HostLoop → HostLoop
+tidyLoop x = cond (eqb (x .set) 0) (loopNumbers LoopRange.Off) x
+
+-- song, cursor and weight of a tail that does not sound
+abbrev pub tidyTail : HostTail → HostTail
+tidyTail x = cond (eqb (x .sounding) 0) (tailNumbers Tail.None) x
+
+-- of a whole session
+unfoldable pub tidy : HostSession → HostSession
+tidy h =
+    record {
+      settings = h .settings;
+      used = h .used;
+      last = h .last;
+      clips = map tidyClip (h .clips);
+      clock = h .clock;
+      state = h .state;
+      position = h .position;
+      cursor = h .cursor;
+      looped = tidyLoop (h .looped);
+      song = h .song;
+      master = h .master;
+      tail = tidyTail (h .tail);
+      voices = h .voices;
+      counters = h .counters;
+      queued = h .queued;
+      number = h .number;
+      deepest = h .deepest;
+      dropped = h .dropped;
+      capturing = h .capturing;
+      captured = h .captured;
+    }
