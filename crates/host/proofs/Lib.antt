@@ -1,3 +1,4 @@
 pub mod Mapped
 pub mod Weighed
 pub mod Round
+pub mod Refused

@@ -1,13 +1,12 @@
 -- A session that goes to a host and comes back is the same session; a host's session that comes and goes back is the same but for what is not used. Assumes nothing.
 use mathlib.Core.Path.{_≡_, refl, sym, ap, _∙_}
-use mathlib.Core.Bool.{Bool, true, false, _&&_, cond}
+use mathlib.Core.Bool.{Bool, true, false, _&&_}
 use mathlib.Core.List.{List, [], _∷_, map}
 use mathlib.Core.Logic.{_⊎_, inl, inr}
 use Prim.Native.Nat.{ℕ, zero, suc, _<_, _≤_}
 use native.Mathlib.Omega.{arith}
-use lib.Dec.{eqb, leb}
-use lib.ListN.{length, getD, length-map, List·getD-map}
-use lib.Seq.{ext-getD}
+use lib.Dec.{eqb}
+use lib.ListN.{length, getD, List·getD-map}
 use borrow.Author.Tests.{leb-true, eqb-true}
 use Rattle.counts.specs.Below.{allBelow}
 use Rattle.counts.proofs.Truth.{and-true, and-l, and-r, or-cases}
@@ -79,3 +78,137 @@ there-and-back s =
 -- as does a snapshot
 pub snapshot-back : (x : PerformanceSnapshot) → snapshotOf (snapshotNumbers x) ≡ x
 snapshot-back x = rw (state-back (x .state), loop-back (x .looped))
+
+-- ---- each number of a host's session that a session gives names a case
+
+kind-named : (k : Kind) → isKind (kindNumber k) ≡ true
+kind-named (Kind.Song extent) = refl
+kind-named Kind.Stinger = refl
+
+state-named : (x : TransportState) → isState (stateNumber x) ≡ true
+state-named TransportState.Stopped = refl
+state-named TransportState.Playing = refl
+state-named TransportState.Paused = refl
+
+flag-named : (on : Bool) → isFlag (flagNumber on) ≡ true
+flag-named true = refl
+flag-named false = refl
+
+loop-named : (x : LoopRange) → isFlag (loopNumbers x .set) ≡ true
+loop-named LoopRange.Off = refl
+loop-named (LoopRange.Range s e) = refl
+
+tail-named : (x : Tail) → isFlag (tailNumbers x .sounding) ≡ true
+tail-named Tail.None = refl
+tail-named (Tail.Sounding h c w) = refl
+
+clips-named : (cs : List Clip) (i : ℕ) → isKind (getD (map clipNumbers cs) i blankClip .kind) ≡ true
+clips-named [] i = refl
+clips-named (c ∷ cs) zero = kind-named (c .kind)
+clips-named (c ∷ cs) (suc i) = clips-named cs i
+
+-- so a host's session that a session gives is never refused for its numbers,
+pub names : (s : Session) → isSession (hostOf s) ≡ true
+unfolding isSession kindsOk hostOf
+names s =
+    and-true
+    (and-true
+    (and-true
+    (and-true (all-true _ 32 (λ i l. clips-named (s .bank .clips) i)) (state-named (s .stage .playhead .transport .state)))
+    (loop-named (s .stage .playhead .transport .looped)))
+    (tail-named (s .stage .sound .fade .tail)))
+    (flag-named (s .desk .capturing))
+
+-- nor a snapshot that a snapshot gives
+pub snapshot-names : (x : PerformanceSnapshot) → isSnapshot (snapshotNumbers x) ≡ true
+snapshot-names x = and-true (state-named (x .state)) (loop-named (x .looped))
+
+-- ---- a host's session to a session and back
+
+clip-tidy : (c : HostClip) → isKind (c .kind) ≡ true → clipNumbers (clipOf c) ≡ tidyClip c
+clip-tidy c e = go (or-cases (eqb (c .kind) 1) (eqb (c .kind) 2) e)
+  where
+    go : (eqb (c .kind) 1 ≡ true) ⊎ (eqb (c .kind) 2 ≡ true) → clipNumbers (clipOf c) ≡ tidyClip c
+    go (inl song) = let n : c .kind ≡ 1 = eqb-true (c .kind) 1 song in rw n
+    go (inr stinger) = let n : c .kind ≡ 2 = eqb-true (c .kind) 2 stinger in rw n
+
+clips-tidy : (cs : List HostClip) → ((i : ℕ) → i < length cs → isKind (getD cs i blankClip .kind) ≡ true) → map clipNumbers (map clipOf cs) ≡ map tidyClip cs
+clips-tidy [] e = refl
+clips-tidy (c ∷ cs) e = rw (clip-tidy c (e 0 (omega arith)), clips-tidy cs (λ i l. e (suc i) (omega arith)))
+
+state-tidy : (n : ℕ) → isState n ≡ true → stateNumber (stateOf n) ≡ n
+state-tidy zero e = refl
+state-tidy (suc zero) e = refl
+state-tidy (suc (suc zero)) e = refl
+state-tidy (suc (suc (suc n))) e = let l : suc (suc (suc n)) ≤ 2 = leb-true _ _ e in absurd (omega arith)
+
+-- what holds of 0 and of 1 holds of a flag
+by-flag : (P : ℕ → Type 0) → P 0 → P 1 → (n : ℕ) → isFlag n ≡ true → P n
+by-flag P off on zero e = off
+by-flag P off on (suc zero) e = on
+by-flag P off on (suc (suc n)) e = let l : suc (suc n) ≤ 1 = leb-true _ _ e in absurd (omega arith)
+
+flag-tidy : (n : ℕ) → isFlag n ≡ true → flagNumber (flagOf n) ≡ n
+flag-tidy = by-flag (λ n. flagNumber (flagOf n) ≡ n) refl refl
+
+loop-tidy : (x : HostLoop) → isFlag (x .set) ≡ true → loopNumbers (loopOf x) ≡ tidyLoop x
+loop-tidy x = by-flag (λ n. let y : HostLoop = record { set = n; start = x .start; end = x .end } in loopNumbers (loopOf y) ≡ tidyLoop y) refl refl (x .set)
+
+tail-tidy : (x : HostTail) → isFlag (x .sounding) ≡ true → tailNumbers (tailOf x) ≡ tidyTail x
+tail-tidy x =
+    by-flag
+    (λ n. let y : HostTail = record { sounding = n; song = x .song; cursor = x .cursor; weight = x .weight } in tailNumbers (tailOf y) ≡ tidyTail y)
+    refl refl (x .sounding)
+
+-- each number names a case
+record Named (h : HostSession) : Type 0 where
+  kinds : allBelow 32 (λ i. isKind (getD (h .clips) i blankClip .kind)) ≡ true
+  state : isState (h .state) ≡ true
+  looped : isFlag (h .looped .set) ≡ true
+  tail : isFlag (h .tail .sounding) ≡ true
+  capturing : isFlag (h .capturing) ≡ true
+
+named : (h : HostSession) → isSession h ≡ true → Named h
+unfolding isSession kindsOk
+named h e =
+    let kinds : Bool = allBelow 32 (λ i. isKind (getD (h .clips) i blankClip .kind)) in
+    let state : Bool = isState (h .state) in
+    let looped : Bool = isFlag (h .looped .set) in
+    let tail : Bool = isFlag (h .tail .sounding) in
+    let e3 : kinds && state && looped && tail ≡ true = and-l (kinds && state && looped && tail) (isFlag (h .capturing)) e in
+    let e2 : kinds && state && looped ≡ true = and-l (kinds && state && looped) tail e3 in
+    let e1 : kinds && state ≡ true = and-l (kinds && state) looped e2 in
+    record {
+      kinds = and-l kinds state e1;
+      state = and-r kinds state e1;
+      looped = and-r (kinds && state) looped e2;
+      tail = and-r (kinds && state && looped) tail e3;
+      capturing = and-r (kinds && state && looped && tail) (isFlag (h .capturing)) e;
+    }
+
+-- where each number names a case, the session that it matches is the same, with what is not used as 0
+pub back-and-there : (h : HostSession) → length (h .clips) ≡ 32 → isSession h ≡ true → hostOf (sessionOf h) ≡ tidy h
+unfolding sessionOf hostOf tidy
+back-and-there h size e =
+    let n : Named h = named h e in
+    rw (
+      clips-tidy (h .clips) (λ i l. all-at _ 32 i (n .kinds) (omega arith)),
+      state-tidy (h .state) (n .state),
+      loop-tidy (h .looped) (n .looped),
+      tail-tidy (h .tail) (n .tail),
+      flag-tidy (h .capturing) (n .capturing),
+    )
+
+-- ---- what is refused for its numbers is matched by no session
+
+clips-keep : (cs : List HostClip) (i : ℕ) → isKind (getD (map tidyClip cs) i blankClip .kind) ≡ isKind (getD cs i blankClip .kind)
+clips-keep cs i = ap (λ (c : HostClip). isKind (c .kind)) (List·getD-map tidyClip cs i blankClip)
+
+-- what is not used has no part in it
+pub tidy-names : (h : HostSession) → isSession (tidy h) ≡ isSession h
+unfolding isSession kindsOk tidy
+tidy-names h = rw (all-same _ _ 32 (λ i l. clips-keep (h .clips) i))
+
+-- a host's session that some session gives, but for what is not used, has numbers that each name a case
+pub matched : (s : Session) (h : HostSession) → hostOf s ≡ tidy h → isSession h ≡ true
+matched s h e = sym (tidy-names h) ∙ ap isSession (sym e) ∙ names s

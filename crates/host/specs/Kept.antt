@@ -170,7 +170,7 @@ tidyClip c =
     record {
       serial = c .serial;
       kind = c .kind;
-      extent = cond (eqb (c .kind) 2) (record { 0 = 0 }) (c .extent);
+      extent = cond (eqb (c .kind) 1) (c .extent) (record { 0 = 0 });
       start = c .start;
       frames = c .frames;
       rate = c .rate;
@@ -178,11 +178,22 @@ tidyClip c =
 
 -- the ends of a loop that is not set
 abbrev pub tidyLoop : HostLoop → HostLoop
-tidyLoop x = cond (eqb (x .set) 0) (loopNumbers LoopRange.Off) x
+tidyLoop x =
+    record {
+      set = x .set;
+      start = cond (flagOf (x .set)) (x .start) (record { 0 = 0 });
+      end = cond (flagOf (x .set)) (x .end) (record { 0 = 0 });
+    }
 
 -- song, cursor and weight of a tail that does not sound
 abbrev pub tidyTail : HostTail → HostTail
-tidyTail x = cond (eqb (x .sounding) 0) (tailNumbers Tail.None) x
+tidyTail x =
+    record {
+      sounding = x .sounding;
+      song = cond (flagOf (x .sounding)) (x .song) (record { slot = 0; serial = 0 });
+      cursor = cond (flagOf (x .sounding)) (x .cursor) (record { 0 = 0 });
+      weight = cond (flagOf (x .sounding)) (x .weight) (atRest zero32);
+    }
 
 -- of a whole session
 unfoldable pub tidy : HostSession → HostSession
