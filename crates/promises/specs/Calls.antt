@@ -1,10 +1,13 @@
 -- Every call on a session and its lent stores, as one step: what it says, and what it leaves. Definitions only.
+use mathlib.Core.Path.{_≡_}
+use mathlib.Core.Bool.{true}
 use mathlib.Core.List.{List, [], _∷_, _++_}
 use Prim.Native.Nat.{ℕ}
 use lib.Ieee.{Float}
 use Rattle.counts.specs.declared.SongFrame.{SongFrame}
 use Rattle.counts.specs.declared.Handle.{Handle}
 use Rattle.timeline.specs.declared.Submission.{Submission}
+use Rattle.timeline.specs.Command.{commandOf, typed}
 use Rattle.transport.specs.declared.At.{At}
 use Rattle.bank.specs.declared.Kind.{Kind}
 use Rattle.stage.specs.declared.Settings.{Settings}
@@ -146,3 +149,22 @@ abbrev pub opened : Opening → ℕ × State
 opened o =
     let r = openOf (o .settings) (o .queue) (o .capture) (o .pool) (o .samples) (o .rate) (o .extent) in
     (code (saysLoad (r .0 .answer)), state (r .0 .session) (o .queue) (o .capture) (r .1))
+
+-- in the definitions numbers have no width and floats no format: what a call is given is of its type
+abbrev pub Given : Call → Type 0
+Given (load samples kind rate) = Unit {0}
+Given (retire h) = Unit {0}
+Given (submit y at) = typed (commandOf y) ≡ true
+Given (transition f at) = Unit {0}
+Given (block out) = Unit {0}
+Given startCapture = Unit {0}
+Given (stopCapture list) = Unit {0}
+Given (replay list) = Unit {0}
+Given snapshot = Unit {0}
+Given (apply y) = Unit {0}
+Given metrics = Unit {0}
+
+-- a state that an opening and calls lead to, each over the stores as the call before left them
+pub data Reached : State → Type 0 where
+  atOpening : (o : Opening) → opened o .0 ≡ 0 → Reached (opened o .1)
+  afterCall : {x : State} (k : Call) → Given k → Reached x → Reached (after k x)
