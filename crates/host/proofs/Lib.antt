@@ -1,5 +1,5 @@
 pub mod Mapped
 pub mod Weighed
 pub mod Round
-pub mod Refused
+pub mod Refusals
 pub mod Under

@@ -57,7 +57,7 @@ use Rattle.host.specs.Arguments.{isSubmission, submissionOf, isAt, atOf,
 use Rattle.host.specs.Answers.{turned, weighHost, unless as unlessHost, answeredBy, loadedBy, openedBy, submittedBy, replayedBy, stoppedBy, snappedBy, meteredBy}
 use Rattle.host.specs.Calls.{openHost, loadHost, retireHost, submitHost, transitionHost, replayHost, blockHost, startCaptureHost, stopCaptureHost, snapshotHost, applyHost, metricsHost}
 use Rattle.host.proofs.Round.{there-and-back, snapshot-back}
-use Rattle.host.proofs.Refused.{turned-matches, turned-same}
+use Rattle.host.proofs.Refusals.{turned-matches, turned-same}
 
 -- ---- what a host reads, in the rules' terms
 
