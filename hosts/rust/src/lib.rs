@@ -1,2 +1,37 @@
+//! Threshreed for a host in Rust: compiled songs play from a queue of commands that fire on exact frames.
+//!
+//! No heap, no dependency, no panic. The sound is made by the proved library, which `rt staticlib host` writes; this
+//! crate keeps the session and its stores together, so that no call can be lent the wrong ones.
+//!
+//! The first room sounds after ten lines:
+//!
+//! ```
+//! use std::sync::Mutex;
+//! use threshreed::{At, Command, Song, Stores};
+//!
+//! // 64 queued commands, no capture, one second of clips.
+//! static STORES: Mutex<Stores<64, 0, 48_000>> = Mutex::new(Stores::new());
+//!
+//! let room: Vec<f32> = (0..96_000).map(|i| (i % 200) as f32 / 400.0).collect();
+//! let mut stores = STORES.lock()?;
+//! let mut session = stores.open(48_000, Song::new(&room, 48_000))?;
+//! session.submit(Command::Play, At::Immediate)?;
+//! let mut out = [0.0; 2 * 512];
+//! session.block(&mut out)?; // 512 frames for the driver, and so on
+//! assert_eq!(out, room[..1024]);
+//! # Ok::<(), Box<dyn std::error::Error>>(())
+//! ```
+//!
+//! `examples/tour.rs` plays two minutes to a WAV file, `examples/told.rs` prints what each command did.
+
 #![no_std]
+
+mod command;
 pub mod raw;
+mod refusal;
+mod session;
+
+pub use command::{At, ClockFrame, Command, Handle, LoopRange, Snapshot, SongFrame, State};
+pub use raw::{Metrics, Report};
+pub use refusal::Refusal;
+pub use session::{Session, Song, Stinger, Stores, WORDS};

@@ -1,0 +1,189 @@
+//! What a host says to a session and hears from it, and the library's numbers for it.
+
+use crate::raw;
+
+/// A frame of the song: a position in it, a length.
+#[derive(Clone, Copy, Debug, Default, PartialEq, Eq, PartialOrd, Ord, Hash)]
+pub struct SongFrame(pub u64);
+
+/// A frame of the session's clock, which counts the frames rendered.
+#[derive(Clone, Copy, Debug, Default, PartialEq, Eq, PartialOrd, Ord, Hash)]
+pub struct ClockFrame(pub u64);
+
+/// A loaded clip, by slot and serial. No serial comes twice in a session, so the handle of a retired clip is refused as
+/// stale and never taken for the clip that has its slot now. It says nothing in any other session.
+#[derive(Clone, Copy, Debug, PartialEq, Eq, Hash)]
+pub struct Handle(pub(crate) raw::Handle);
+
+/// A loop from its start up to its end.
+#[derive(Clone, Copy, Debug, PartialEq, Eq, Hash)]
+pub struct LoopRange {
+    pub start: SongFrame,
+    pub end: SongFrame,
+}
+
+/// What the ordinary submission takes: every command but a transition, which has its own call.
+#[derive(Clone, Copy, Debug, PartialEq)]
+pub enum Command {
+    Play,
+    Pause,
+    /// To position 0; a loop is kept.
+    Stop,
+    /// To a song frame, held to the song's length.
+    Seek(SongFrame),
+    /// Taken if start < end <= the song's length, else nothing.
+    Loop(LoopRange),
+    ClearLoop,
+    /// The master gain, held to 0..2, reached in 256 frames.
+    Gain(f32),
+    /// The song under the handle plays from 0 with no loop; the old one fades out in 1,024 frames.
+    Swap(Handle),
+    /// The stinger under the handle sounds at a gain; below 0 is 0.
+    Stinger(Handle, f32),
+}
+
+/// When a command is due.
+#[derive(Clone, Copy, Debug, PartialEq, Eq)]
+pub enum At {
+    /// At the clock's frame.
+    Immediate,
+    /// At a clock frame; one that has passed is executed at once.
+    Frame(ClockFrame),
+    /// When the song comes to a frame, through its loop if it has one; at once if it does not come there.
+    Song(SongFrame),
+}
+
+#[derive(Clone, Copy, Debug, PartialEq, Eq)]
+pub enum State {
+    Stopped,
+    Playing,
+    Paused,
+}
+
+/// What a control snapshot keeps. Clock, queue, tail and voices are no part of it.
+#[derive(Clone, Copy, Debug, PartialEq)]
+pub struct Snapshot {
+    pub position: SongFrame,
+    pub state: State,
+    pub gain: f32,
+    pub looped: Option<LoopRange>,
+}
+
+const NO_HANDLE: raw::Handle = raw::Handle { slot: 0, serial: 0 };
+
+impl From<Command> for raw::Command {
+    fn from(command: Command) -> Self {
+        let plain = |kind| raw::Command {
+            kind,
+            gain: 0.0,
+            clip: NO_HANDLE,
+            frame: 0,
+            end: 0,
+        };
+        match command {
+            Command::Play => plain(1),
+            Command::Pause => plain(2),
+            Command::Stop => plain(3),
+            Command::Seek(frame) => raw::Command {
+                frame: frame.0,
+                ..plain(4)
+            },
+            Command::Loop(range) => raw::Command {
+                frame: range.start.0,
+                end: range.end.0,
+                ..plain(6)
+            },
+            Command::ClearLoop => plain(7),
+            Command::Gain(gain) => raw::Command { gain, ..plain(8) },
+            Command::Swap(clip) => raw::Command {
+                clip: clip.0,
+                ..plain(9)
+            },
+            Command::Stinger(clip, gain) => raw::Command {
+                clip: clip.0,
+                gain,
+                ..plain(10)
+            },
+        }
+    }
+}
+
+impl From<At> for raw::At {
+    fn from(at: At) -> Self {
+        match at {
+            At::Immediate => raw::At { kind: 1, frame: 0 },
+            At::Frame(frame) => raw::At {
+                kind: 2,
+                frame: frame.0,
+            },
+            At::Song(frame) => raw::At {
+                kind: 3,
+                frame: frame.0,
+            },
+        }
+    }
+}
+
+impl State {
+    pub(crate) fn of(number: u32) -> Self {
+        match number {
+            1 => State::Playing,
+            2 => State::Paused,
+            _ => State::Stopped,
+        }
+    }
+
+    fn number(self) -> u32 {
+        match self {
+            State::Stopped => 0,
+            State::Playing => 1,
+            State::Paused => 2,
+        }
+    }
+}
+
+impl LoopRange {
+    pub(crate) fn of(looped: raw::Loop) -> Option<Self> {
+        (looped.set == 1).then_some(LoopRange {
+            start: SongFrame(looped.start),
+            end: SongFrame(looped.end),
+        })
+    }
+
+    fn numbers(looped: Option<Self>) -> raw::Loop {
+        match looped {
+            None => raw::Loop {
+                set: 0,
+                start: 0,
+                end: 0,
+            },
+            Some(range) => raw::Loop {
+                set: 1,
+                start: range.start.0,
+                end: range.end.0,
+            },
+        }
+    }
+}
+
+impl From<raw::Snapshot> for Snapshot {
+    fn from(snapshot: raw::Snapshot) -> Self {
+        Snapshot {
+            position: SongFrame(snapshot.position),
+            state: State::of(snapshot.state),
+            gain: snapshot.gain,
+            looped: LoopRange::of(snapshot.looped),
+        }
+    }
+}
+
+impl From<Snapshot> for raw::Snapshot {
+    fn from(snapshot: Snapshot) -> Self {
+        raw::Snapshot {
+            position: snapshot.position.0,
+            state: snapshot.state.number(),
+            gain: snapshot.gain,
+            looped: LoopRange::numbers(snapshot.looped),
+        }
+    }
+}

@@ -1,0 +1,457 @@
+//! A session together with the stores that it is lent.
+//!
+//! Every `unsafe` below is one call of the library. It asks of a pointer that it is aligned and not null, stands for so
+//! many elements, and that a store that is written overlaps no other: slices and their borrows give just that, an empty
+//! slice too.
+
+use core::fmt;
+
+use crate::command::{At, ClockFrame, Command, Handle, LoopRange, Snapshot, SongFrame, State};
+use crate::raw::{self, Metrics, Report};
+use crate::refusal::Refusal;
+
+/// A record of the queue, of the capture and of the lists for them has five words: clock frame, number, kind (1 to 10 in
+/// the order play, pause, stop, seek, transition, loop, clear loop, gain, swap, stinger), and two that the kind uses.
+pub const WORDS: usize = 5;
+
+const SONG: u32 = 1;
+const STINGER: u32 = 2;
+
+/// A song to load: interleaved stereo, samples finite and at most 16 in magnitude.
+#[derive(Clone, Copy, Debug, PartialEq)]
+pub struct Song<'s> {
+    pub samples: &'s [f32],
+    pub rate: u32,
+    /// From the frames in `samples` to 2^40. Past its samples a song is silent.
+    pub length: SongFrame,
+}
+
+impl<'s> Song<'s> {
+    /// A song as long as its samples.
+    pub const fn new(samples: &'s [f32], rate: u32) -> Self {
+        Song {
+            samples,
+            rate,
+            length: SongFrame((samples.len() / 2) as u64),
+        }
+    }
+}
+
+/// A stinger to load: samples as a song's, no length.
+#[derive(Clone, Copy, Debug, PartialEq)]
+pub struct Stinger<'s> {
+    pub samples: &'s [f32],
+    pub rate: u32,
+}
+
+/// Stores of a fixed size, which a static can hold: so many queued commands (1 to 4,096), captured commands (0 to 4,096)
+/// and stereo frames of clips (1 to 33,554,432).
+///
+/// ```
+/// use threshreed::{Song, Stores};
+///
+/// let mut stores = Stores::<8, 0, 4>::new();
+/// let session = stores.open(48_000, Song::new(&[0.5, -0.5, 0.25, 0.25], 48_000))?;
+/// assert_eq!(session.queue_depth(), 0);
+/// # Ok::<(), threshreed::Refusal>(())
+/// ```
+pub struct Stores<const QUEUE: usize, const CAPTURE: usize, const POOL: usize> {
+    queue: [[u64; WORDS]; QUEUE],
+    capture: [[u64; WORDS]; CAPTURE],
+    pool: [[f32; 2]; POOL],
+}
+
+impl<const QUEUE: usize, const CAPTURE: usize, const POOL: usize> Stores<QUEUE, CAPTURE, POOL> {
+    pub const fn new() -> Self {
+        Stores {
+            queue: [[0; WORDS]; QUEUE],
+            capture: [[0; WORDS]; CAPTURE],
+            pool: [[0.0; 2]; POOL],
+        }
+    }
+
+    /// Opens a session on its first song, in these stores.
+    pub fn open(&mut self, rate: u32, song: Song<'_>) -> Result<Session<'_>, Refusal> {
+        Session::open(
+            rate,
+            self.queue.as_flattened_mut(),
+            self.capture.as_flattened_mut(),
+            self.pool.as_flattened_mut(),
+            song,
+        )
+    }
+}
+
+impl<const QUEUE: usize, const CAPTURE: usize, const POOL: usize> Default
+    for Stores<QUEUE, CAPTURE, POOL>
+{
+    fn default() -> Self {
+        Stores::new()
+    }
+}
+
+/// A session and its stores. Every call answers at once, allocates nothing, and is safe with any argument: what it does
+/// not take it refuses, and is then as if it had not been made.
+pub struct Session<'a> {
+    raw: raw::Session,
+    queue: &'a mut [u64],
+    capture: &'a mut [u64],
+    pool: &'a mut [f32],
+}
+
+impl<'a> Session<'a> {
+    /// Opens a session on its first song, stopped at 0, gain 1.0. The stores are [`WORDS`] words for each command of the
+    /// queue and of the capture, and two samples for each frame of the pool.
+    ///
+    /// ```
+    /// use threshreed::{Refusal, Session, Song, WORDS};
+    ///
+    /// let song = Song::new(&[0.5, -0.5, 0.25, 0.25], 48_000);
+    /// let (mut queue, mut pool) = ([0; 8 * WORDS], [0.0; 2 * 4]);
+    /// assert!(Session::open(48_000, &mut queue, &mut [], &mut pool, song).is_ok());
+    ///
+    /// let odd = &mut queue[1..];
+    /// let refused = Session::open(48_000, odd, &mut [], &mut pool, song).unwrap_err();
+    /// assert_eq!(refused, Refusal::NotWellFormed);
+    /// ```
+    pub fn open(
+        rate: u32,
+        queue: &'a mut [u64],
+        capture: &'a mut [u64],
+        pool: &'a mut [f32],
+        song: Song<'_>,
+    ) -> Result<Self, Refusal> {
+        let settings = raw::Settings {
+            rate,
+            queue: queue.len() / WORDS,
+            capture: capture.len() / WORDS,
+            pool: (pool.len() / 2) as u64,
+        };
+        let opened = unsafe {
+            raw::threshreed_open(
+                settings,
+                queue.as_ptr(),
+                queue.len(),
+                capture.as_ptr(),
+                capture.len(),
+                pool.as_mut_ptr(),
+                pool.len(),
+                song.samples.as_ptr(),
+                song.samples.len(),
+                song.rate,
+                song.length.0,
+            )
+        };
+        Refusal::check(opened.refusal)?;
+        Ok(Session {
+            raw: opened.session,
+            queue,
+            capture,
+            pool,
+        })
+    }
+
+    /// Loads a song into the lowest free slot and the lowest room in the pool where it fits.
+    pub fn load_song(&mut self, song: Song<'_>) -> Result<Handle, Refusal> {
+        self.load(song.samples, SONG, song.length, song.rate)
+    }
+
+    /// Loads a stinger likewise.
+    pub fn load_stinger(&mut self, stinger: Stinger<'_>) -> Result<Handle, Refusal> {
+        self.load(stinger.samples, STINGER, SongFrame(0), stinger.rate)
+    }
+
+    fn load(
+        &mut self,
+        samples: &[f32],
+        kind: u32,
+        extent: SongFrame,
+        rate: u32,
+    ) -> Result<Handle, Refusal> {
+        let loaded = unsafe {
+            raw::threshreed_load(
+                self.raw,
+                self.queue.as_ptr(),
+                self.queue.len(),
+                self.capture.as_ptr(),
+                self.capture.len(),
+                self.pool.as_mut_ptr(),
+                self.pool.len(),
+                samples.as_ptr(),
+                samples.len(),
+                kind,
+                extent.0,
+                rate,
+            )
+        };
+        self.raw = loaded.session;
+        Refusal::check(loaded.refusal)?;
+        Ok(Handle(loaded.handle))
+    }
+
+    /// Retires a clip that neither song, tail, voice, queue nor running capture holds. Its slot and its room are free.
+    ///
+    /// ```
+    /// use threshreed::{Refusal, Song, Stinger, Stores};
+    ///
+    /// let mut stores = Stores::<8, 0, 4>::new();
+    /// let mut session = stores.open(48_000, Song::new(&[0.5, -0.5], 48_000))?;
+    /// let bell = session.load_stinger(Stinger { samples: &[0.25, 0.25], rate: 48_000 })?;
+    /// session.retire(bell)?;
+    /// assert!(!session.is_live(bell));
+    /// assert_eq!(session.retire(bell), Err(Refusal::Stale));
+    /// assert_eq!(session.retire(session.song()), Err(Refusal::Held));
+    /// # Ok::<(), Refusal>(())
+    /// ```
+    pub fn retire(&mut self, clip: Handle) -> Result<(), Refusal> {
+        let answered = unsafe {
+            raw::threshreed_retire(
+                self.raw,
+                self.queue.as_ptr(),
+                self.queue.len(),
+                self.capture.as_ptr(),
+                self.capture.len(),
+                clip.0,
+            )
+        };
+        self.answer(answered)
+    }
+
+    /// Submits a command and answers its number. Commands are executed by frame, those of one frame by number.
+    ///
+    /// ```
+    /// use threshreed::{At, ClockFrame, Command, Song, Stores};
+    ///
+    /// let mut stores = Stores::<8, 0, 4>::new();
+    /// let mut session = stores.open(48_000, Song::new(&[0.5, -0.5], 48_000))?;
+    /// assert_eq!(session.submit(Command::Play, At::Frame(ClockFrame(1)))?, 1);
+    /// let mut out = [0.0; 6];
+    /// session.block(&mut out)?;
+    /// assert_eq!(out, [0.0, 0.0, 0.5, -0.5, 0.0, 0.0]);
+    /// # Ok::<(), threshreed::Refusal>(())
+    /// ```
+    pub fn submit(&mut self, command: Command, at: At) -> Result<u64, Refusal> {
+        let submitted = unsafe {
+            raw::threshreed_submit(
+                self.raw,
+                self.queue.as_mut_ptr(),
+                self.queue.len(),
+                self.capture.as_mut_ptr(),
+                self.capture.len(),
+                command.into(),
+                at.into(),
+            )
+        };
+        self.number(submitted)
+    }
+
+    /// Submits a seek that takes the place of every queued transition, and answers its number.
+    pub fn transition(&mut self, frame: SongFrame, at: At) -> Result<u64, Refusal> {
+        let submitted = unsafe {
+            raw::threshreed_transition(
+                self.raw,
+                self.queue.as_mut_ptr(),
+                self.queue.len(),
+                self.capture.as_mut_ptr(),
+                self.capture.len(),
+                frame.0,
+                at.into(),
+            )
+        };
+        self.number(submitted)
+    }
+
+    /// Queues a list's records, [`WORDS`] words each, at their frames, without capture. Tells how many were taken, how
+    /// many found the queue full, and how many were skipped otherwise.
+    pub fn replay(&mut self, list: &[u64]) -> Result<Report, Refusal> {
+        let replayed = unsafe {
+            raw::threshreed_replay(
+                self.raw,
+                self.queue.as_mut_ptr(),
+                self.queue.len(),
+                self.capture.as_ptr(),
+                self.capture.len(),
+                list.as_ptr(),
+                list.len(),
+            )
+        };
+        self.raw = replayed.session;
+        Refusal::check(replayed.refusal)?;
+        Ok(replayed.report)
+    }
+
+    /// Makes a block of half as many frames as `out` has samples, and executes each command that is due in it at its
+    /// frame. A refused block leaves `out` as it was.
+    pub fn block(&mut self, out: &mut [f32]) -> Result<(), Refusal> {
+        let answered = unsafe {
+            raw::threshreed_block(
+                self.raw,
+                self.queue.as_ptr(),
+                self.queue.len(),
+                self.capture.as_ptr(),
+                self.capture.len(),
+                self.pool.as_ptr(),
+                self.pool.len(),
+                out.as_mut_ptr(),
+                out.len(),
+            )
+        };
+        self.answer(answered)
+    }
+
+    /// Starts capture, empty, also while it runs.
+    pub fn start_capture(&mut self) -> Result<(), Refusal> {
+        let answered = unsafe {
+            raw::threshreed_start_capture(
+                self.raw,
+                self.queue.as_ptr(),
+                self.queue.len(),
+                self.capture.as_ptr(),
+                self.capture.len(),
+            )
+        };
+        self.answer(answered)
+    }
+
+    /// Stops capture, copies its records to the list's front and answers how many: none if capture is off.
+    ///
+    /// ```
+    /// use threshreed::{At, ClockFrame, Command, Song, Stores, WORDS};
+    ///
+    /// let mut stores = Stores::<8, 8, 4>::new();
+    /// let mut session = stores.open(48_000, Song::new(&[0.5, -0.5], 48_000))?;
+    /// session.start_capture()?;
+    /// session.submit(Command::Play, At::Frame(ClockFrame(7)))?;
+    /// let mut list = [0; 8 * WORDS];
+    /// assert_eq!(session.stop_capture(&mut list)?, 1);
+    /// assert_eq!(list[..WORDS], [7, 1, 1, 0, 0]);
+    /// assert_eq!(session.replay(&list[..WORDS])?.taken, 1);
+    /// # Ok::<(), threshreed::Refusal>(())
+    /// ```
+    pub fn stop_capture(&mut self, list: &mut [u64]) -> Result<usize, Refusal> {
+        let stopped = unsafe {
+            raw::threshreed_stop_capture(
+                self.raw,
+                self.queue.as_ptr(),
+                self.queue.len(),
+                self.capture.as_ptr(),
+                self.capture.len(),
+                list.as_mut_ptr(),
+                list.len(),
+            )
+        };
+        self.raw = stopped.session;
+        Refusal::check(stopped.refusal)?;
+        Ok(stopped.copied)
+    }
+
+    /// Takes a control snapshot: position, state, the gain that the master is heading for, loop.
+    pub fn snapshot(&self) -> Result<Snapshot, Refusal> {
+        let snapped = unsafe {
+            raw::threshreed_snapshot(
+                self.raw,
+                self.queue.as_ptr(),
+                self.queue.len(),
+                self.capture.as_ptr(),
+                self.capture.len(),
+            )
+        };
+        Refusal::check(snapped.refusal)?;
+        Ok(snapped.snapshot.into())
+    }
+
+    /// Applies a control snapshot at once. Clock, queue, tail and voices stay.
+    pub fn apply_snapshot(&mut self, snapshot: Snapshot) -> Result<(), Refusal> {
+        let answered = unsafe {
+            raw::threshreed_apply_snapshot(
+                self.raw,
+                self.queue.as_ptr(),
+                self.queue.len(),
+                self.capture.as_ptr(),
+                self.capture.len(),
+                snapshot.into(),
+            )
+        };
+        self.answer(answered)
+    }
+
+    /// Reads the metrics.
+    pub fn metrics(&self) -> Result<Metrics, Refusal> {
+        let metered = unsafe {
+            raw::threshreed_metrics(
+                self.raw,
+                self.queue.as_ptr(),
+                self.queue.len(),
+                self.capture.as_ptr(),
+                self.capture.len(),
+            )
+        };
+        Refusal::check(metered.refusal)?;
+        Ok(metered.metrics)
+    }
+
+    /// The clock: frames rendered.
+    pub const fn clock(&self) -> ClockFrame {
+        ClockFrame(self.raw.clock)
+    }
+
+    /// The song position.
+    pub const fn position(&self) -> SongFrame {
+        SongFrame(self.raw.position)
+    }
+
+    /// Stopped, playing or paused.
+    pub fn state(&self) -> State {
+        State::of(self.raw.state)
+    }
+
+    /// The loop, if one is set.
+    pub fn loop_range(&self) -> Option<LoopRange> {
+        LoopRange::of(self.raw.looped)
+    }
+
+    /// The master gain: the value that it is heading for.
+    pub const fn master_gain(&self) -> f32 {
+        self.raw.master.target
+    }
+
+    /// The song that plays.
+    pub const fn song(&self) -> Handle {
+        Handle(self.raw.song)
+    }
+
+    /// How many commands are queued.
+    pub const fn queue_depth(&self) -> usize {
+        self.raw.queued
+    }
+
+    /// Whether a handle stands for a loaded clip.
+    pub fn is_live(&self, clip: Handle) -> bool {
+        let raw::Handle { slot, serial } = clip.0;
+        let used = self.raw.used.checked_shr(slot).is_some_and(|x| x & 1 == 1);
+        used && self.raw.clips[slot as usize].serial == serial
+    }
+
+    fn answer(&mut self, answered: raw::Answered) -> Result<(), Refusal> {
+        self.raw = answered.session;
+        Refusal::check(answered.refusal)
+    }
+
+    fn number(&mut self, submitted: raw::Submitted) -> Result<u64, Refusal> {
+        self.raw = submitted.session;
+        Refusal::check(submitted.refusal)?;
+        Ok(submitted.number)
+    }
+}
+
+/// Where it stands, without its stores.
+impl fmt::Debug for Session<'_> {
+    fn fmt(&self, f: &mut fmt::Formatter<'_>) -> fmt::Result {
+        f.debug_struct("Session")
+            .field("clock", &self.clock())
+            .field("state", &self.state())
+            .field("position", &self.position())
+            .field("queued", &self.queue_depth())
+            .finish_non_exhaustive()
+    }
+}
