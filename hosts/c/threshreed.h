@@ -1,0 +1,750 @@
+/* Threshreed for a host in C (C11; a C++ host may include it too). Link with libhost.a, which `rt staticlib host` writes.
+ *
+ * There is no heap. `Threshreed` holds a session and the stores that a host lends it, and the functions `tr_...` take a
+ * pointer to it. Below them lie the proved functions themselves, `threshreed_...`, which take a session by value and hand
+ * it back. Any argument is safe but a bad pointer: one that a host lends must stand for as many elements as it says, and
+ * what is written must overlap nothing else that is lent. To a `tr_...` call NULL may be lent with length 0.
+ *
+ * Every `tr_...` call answers 0 or a refusal's number. A refused call leaves the session and all stores as they were;
+ * 15 alone raises the dropped count.
+ */
+#ifndef THRESHREED_H
+#define THRESHREED_H
+
+#include <assert.h>
+#include <stdbool.h>
+#include <stddef.h>
+#include <stdint.h>
+#include <string.h>
+
+#ifdef __cplusplus
+extern "C" {
+#endif
+
+/* ---- the refusals */
+
+#define THRESHREED_REFUSALS(X) \
+    X(1, NOT_WELL_FORMED, "session or its stores not well formed") \
+    X(2, POOL_LENGTH, "lent pool has another length") \
+    X(3, ODD_SAMPLES, "odd sample count") \
+    X(4, CLOCK_SPENT, "block would pass clock 2^62") \
+    X(5, NO_SAMPLES, "clip without samples") \
+    X(6, BAD_SAMPLE, "sample not finite or above 16") \
+    X(7, OUT_OF_RANGE, "opening number, clip rate (8,000 to 192,000) or song length outside its range") \
+    X(8, SLOTS_USED, "32 slots used") \
+    X(9, SERIALS_SPENT, "serials spent") \
+    X(10, NO_ROOM, "no start in the pool fits") \
+    X(11, STALE, "stale handle") \
+    X(12, WRONG_KIND, "song where a stinger is due, or the reverse") \
+    X(13, WRONG_RATE, "clip rate is not the session's") \
+    X(14, BAD_GAIN, "gain not finite; stinger gain above 16; snapshot gain outside 0..2") \
+    X(15, QUEUE_FULL, "queue full; dropped count + 1, stopping at 2^64 - 1") \
+    X(16, CAPTURE_FULL, "capture on and full") \
+    X(17, VOICES_TAKEN, "a stinger while queued stingers + sounding voices = 16") \
+    X(18, NUMBERS_SPENT, "submission number 2^64 - 1 already given") \
+    X(19, HELD, "clip held by song, tail, voice, queue or running capture") \
+    X(20, LIST_TOO_SHORT, "list for captured records too short") \
+    X(21, UNREADABLE, "replayed record unreadable (seen only as a skip)") \
+    X(22, NO_SUCH_CASE, "argument names no case")
+
+/* THRESHREED_NOT_WELL_FORMED to THRESHREED_NO_SUCH_CASE. */
+enum {
+#define X(number, name, words) THRESHREED_##name = number,
+    THRESHREED_REFUSALS(X)
+#undef X
+};
+
+/* A refusal in words. */
+static inline const char *threshreed_refusal(uint32_t number)
+{
+    switch (number) {
+#define X(number, name, words) case number: return words;
+        THRESHREED_REFUSALS(X)
+#undef X
+    default: return "none";
+    }
+}
+
+/* ---- the numbers */
+
+enum {
+    THRESHREED_SLOTS = 32,
+    THRESHREED_VOICES = 16,
+    /* Words of a record: clock frame, number, kind, and two that the kind uses. */
+    THRESHREED_WORDS = 5
+};
+
+/* A clip's kind. */
+enum { THRESHREED_CLIP_SONG = 1, THRESHREED_CLIP_STINGER = 2 };
+
+/* A session's state. */
+enum { THRESHREED_STOPPED = 0, THRESHREED_PLAYING = 1, THRESHREED_PAUSED = 2 };
+
+/* A command's kind. A transition stands in records alone: it has its own call. */
+enum {
+    THRESHREED_PLAY = 1,
+    THRESHREED_PAUSE = 2,
+    THRESHREED_STOP = 3,
+    THRESHREED_SEEK = 4,
+    THRESHREED_TRANSITION = 5,
+    THRESHREED_LOOP = 6,
+    THRESHREED_CLEAR_LOOP = 7,
+    THRESHREED_GAIN = 8,
+    THRESHREED_SWAP = 9,
+    THRESHREED_STINGER = 10
+};
+
+/* When a command is due. */
+enum { THRESHREED_AT_ONCE = 1, THRESHREED_AT_CLOCK = 2, THRESHREED_AT_SONG = 3 };
+
+/* ---- the structs, in the library's layout */
+
+/* Rate, capacity of the queue and of the capture in records, frames of the pool. */
+typedef struct {
+    uint32_t rate;
+    size_t queue;
+    size_t capture;
+    uint64_t pool;
+} ThreshreedSettings;
+
+/* A loaded clip. No serial comes twice in a session, so the handle of a retired clip is refused as stale. */
+typedef struct {
+    uint32_t slot;
+    uint32_t serial;
+} ThreshreedHandle;
+
+typedef struct {
+    float value;
+    float target;
+    float step;
+    uint32_t remaining;
+} ThreshreedRamp;
+
+/* Extent: a song's length; not used of a stinger. */
+typedef struct {
+    uint32_t serial;
+    uint32_t kind;
+    uint64_t extent;
+    uint64_t start;
+    uint64_t frames;
+    uint32_t rate;
+} ThreshreedClip;
+
+/* Set: 0 or 1. If 0, the ends are not used. */
+typedef struct {
+    uint32_t set;
+    uint64_t start;
+    uint64_t end;
+} ThreshreedLoop;
+
+/* Sounding: 0 or 1. If 0, the rest is not used. */
+typedef struct {
+    uint32_t sounding;
+    ThreshreedHandle song;
+    uint64_t cursor;
+    ThreshreedRamp weight;
+} ThreshreedTail;
+
+typedef struct {
+    ThreshreedHandle handle;
+    size_t head;
+    ThreshreedRamp gain;
+} ThreshreedVoice;
+
+/* The first `count` sound, in firing order. */
+typedef struct {
+    ThreshreedVoice table[THRESHREED_VOICES];
+    size_t count;
+} ThreshreedVoices;
+
+typedef struct {
+    uint64_t executed;
+    uint64_t swaps;
+    uint64_t fired;
+} ThreshreedCounters;
+
+/* Capturing: 0 or 1. */
+typedef struct {
+    ThreshreedSettings settings;
+    uint32_t used;
+    uint32_t last;
+    ThreshreedClip clips[THRESHREED_SLOTS];
+    uint64_t clock;
+    uint32_t state;
+    uint64_t position;
+    uint64_t cursor;
+    ThreshreedLoop looped;
+    ThreshreedHandle song;
+    ThreshreedRamp master;
+    ThreshreedTail tail;
+    ThreshreedVoices voices;
+    ThreshreedCounters counters;
+    size_t queued;
+    uint64_t number;
+    size_t deepest;
+    uint64_t dropped;
+    uint32_t capturing;
+    size_t captured;
+} ThreshreedSession;
+
+/* A kind uses the fields that it needs: a seek `frame`, a loop `frame` and `end`, a gain `gain`, a swap `clip`, a stinger
+ * `clip` and `gain`. */
+typedef struct {
+    uint32_t kind;
+    float gain;
+    ThreshreedHandle clip;
+    uint64_t frame;
+    uint64_t end;
+} ThreshreedCommand;
+
+typedef struct {
+    uint32_t kind;
+    uint64_t frame;
+} ThreshreedAt;
+
+typedef struct {
+    uint64_t position;
+    uint32_t state;
+    float gain;
+    ThreshreedLoop looped;
+} ThreshreedSnapshot;
+
+/* Of a replay: records taken, records that found the queue full, records skipped otherwise. */
+typedef struct {
+    size_t taken;
+    size_t full;
+    size_t skipped;
+} ThreshreedReport;
+
+typedef struct {
+    uint64_t rendered;
+    uint64_t executed;
+    uint64_t dropped;
+    size_t deepest;
+    uint64_t swaps;
+    uint64_t fired;
+} ThreshreedMetrics;
+
+/* The answers: 0 or the refusal's number, what the call gives, and the session. */
+typedef struct {
+    uint32_t refusal;
+    ThreshreedSession session;
+} ThreshreedAnswered;
+
+typedef struct {
+    uint32_t refusal;
+    ThreshreedHandle handle;
+    ThreshreedSession session;
+} ThreshreedLoaded;
+
+typedef struct {
+    uint32_t refusal;
+    uint64_t number;
+    ThreshreedSession session;
+} ThreshreedSubmitted;
+
+typedef struct {
+    uint32_t refusal;
+    ThreshreedReport report;
+    ThreshreedSession session;
+} ThreshreedReplayed;
+
+typedef struct {
+    uint32_t refusal;
+    size_t copied;
+    ThreshreedSession session;
+} ThreshreedStopped;
+
+typedef struct {
+    uint32_t refusal;
+    ThreshreedSnapshot snapshot;
+    ThreshreedSession session;
+} ThreshreedSnapped;
+
+typedef struct {
+    uint32_t refusal;
+    ThreshreedMetrics metrics;
+    ThreshreedSession session;
+} ThreshreedMetered;
+
+/* The same numbers are tested against the Rust types. */
+#define THRESHREED_SIZE(type, bytes) static_assert(sizeof(Threshreed##type) == (bytes), #type)
+#define THRESHREED_OFFSET(type, field, bytes) \
+    static_assert(offsetof(Threshreed##type, field) == (bytes), #type "." #field)
+
+THRESHREED_SIZE(Settings, 32);
+THRESHREED_OFFSET(Settings, rate, 0);
+THRESHREED_OFFSET(Settings, queue, 8);
+THRESHREED_OFFSET(Settings, capture, 16);
+THRESHREED_OFFSET(Settings, pool, 24);
+
+THRESHREED_SIZE(Handle, 8);
+THRESHREED_OFFSET(Handle, slot, 0);
+THRESHREED_OFFSET(Handle, serial, 4);
+
+THRESHREED_SIZE(Ramp, 16);
+THRESHREED_OFFSET(Ramp, value, 0);
+THRESHREED_OFFSET(Ramp, target, 4);
+THRESHREED_OFFSET(Ramp, step, 8);
+THRESHREED_OFFSET(Ramp, remaining, 12);
+
+THRESHREED_SIZE(Clip, 40);
+THRESHREED_OFFSET(Clip, serial, 0);
+THRESHREED_OFFSET(Clip, kind, 4);
+THRESHREED_OFFSET(Clip, extent, 8);
+THRESHREED_OFFSET(Clip, start, 16);
+THRESHREED_OFFSET(Clip, frames, 24);
+THRESHREED_OFFSET(Clip, rate, 32);
+
+THRESHREED_SIZE(Loop, 24);
+THRESHREED_OFFSET(Loop, set, 0);
+THRESHREED_OFFSET(Loop, start, 8);
+THRESHREED_OFFSET(Loop, end, 16);
+
+THRESHREED_SIZE(Tail, 40);
+THRESHREED_OFFSET(Tail, sounding, 0);
+THRESHREED_OFFSET(Tail, song, 4);
+THRESHREED_OFFSET(Tail, cursor, 16);
+THRESHREED_OFFSET(Tail, weight, 24);
+
+THRESHREED_SIZE(Voice, 32);
+THRESHREED_OFFSET(Voice, handle, 0);
+THRESHREED_OFFSET(Voice, head, 8);
+THRESHREED_OFFSET(Voice, gain, 16);
+
+THRESHREED_SIZE(Voices, 520);
+THRESHREED_OFFSET(Voices, table, 0);
+THRESHREED_OFFSET(Voices, count, 512);
+
+THRESHREED_SIZE(Counters, 24);
+THRESHREED_OFFSET(Counters, executed, 0);
+THRESHREED_OFFSET(Counters, swaps, 8);
+THRESHREED_OFFSET(Counters, fired, 16);
+
+THRESHREED_SIZE(Session, 2032);
+THRESHREED_OFFSET(Session, settings, 0);
+THRESHREED_OFFSET(Session, used, 32);
+THRESHREED_OFFSET(Session, last, 36);
+THRESHREED_OFFSET(Session, clips, 40);
+THRESHREED_OFFSET(Session, clock, 1320);
+THRESHREED_OFFSET(Session, state, 1328);
+THRESHREED_OFFSET(Session, position, 1336);
+THRESHREED_OFFSET(Session, cursor, 1344);
+THRESHREED_OFFSET(Session, looped, 1352);
+THRESHREED_OFFSET(Session, song, 1376);
+THRESHREED_OFFSET(Session, master, 1384);
+THRESHREED_OFFSET(Session, tail, 1400);
+THRESHREED_OFFSET(Session, voices, 1440);
+THRESHREED_OFFSET(Session, counters, 1960);
+THRESHREED_OFFSET(Session, queued, 1984);
+THRESHREED_OFFSET(Session, number, 1992);
+THRESHREED_OFFSET(Session, deepest, 2000);
+THRESHREED_OFFSET(Session, dropped, 2008);
+THRESHREED_OFFSET(Session, capturing, 2016);
+THRESHREED_OFFSET(Session, captured, 2024);
+
+THRESHREED_SIZE(Command, 32);
+THRESHREED_OFFSET(Command, kind, 0);
+THRESHREED_OFFSET(Command, gain, 4);
+THRESHREED_OFFSET(Command, clip, 8);
+THRESHREED_OFFSET(Command, frame, 16);
+THRESHREED_OFFSET(Command, end, 24);
+
+THRESHREED_SIZE(At, 16);
+THRESHREED_OFFSET(At, kind, 0);
+THRESHREED_OFFSET(At, frame, 8);
+
+THRESHREED_SIZE(Snapshot, 40);
+THRESHREED_OFFSET(Snapshot, position, 0);
+THRESHREED_OFFSET(Snapshot, state, 8);
+THRESHREED_OFFSET(Snapshot, gain, 12);
+THRESHREED_OFFSET(Snapshot, looped, 16);
+
+THRESHREED_SIZE(Report, 24);
+THRESHREED_OFFSET(Report, taken, 0);
+THRESHREED_OFFSET(Report, full, 8);
+THRESHREED_OFFSET(Report, skipped, 16);
+
+THRESHREED_SIZE(Metrics, 48);
+THRESHREED_OFFSET(Metrics, rendered, 0);
+THRESHREED_OFFSET(Metrics, executed, 8);
+THRESHREED_OFFSET(Metrics, dropped, 16);
+THRESHREED_OFFSET(Metrics, deepest, 24);
+THRESHREED_OFFSET(Metrics, swaps, 32);
+THRESHREED_OFFSET(Metrics, fired, 40);
+
+THRESHREED_SIZE(Answered, 2040);
+THRESHREED_OFFSET(Answered, refusal, 0);
+THRESHREED_OFFSET(Answered, session, 8);
+
+THRESHREED_SIZE(Loaded, 2048);
+THRESHREED_OFFSET(Loaded, refusal, 0);
+THRESHREED_OFFSET(Loaded, handle, 4);
+THRESHREED_OFFSET(Loaded, session, 16);
+
+THRESHREED_SIZE(Submitted, 2048);
+THRESHREED_OFFSET(Submitted, refusal, 0);
+THRESHREED_OFFSET(Submitted, number, 8);
+THRESHREED_OFFSET(Submitted, session, 16);
+
+THRESHREED_SIZE(Replayed, 2064);
+THRESHREED_OFFSET(Replayed, refusal, 0);
+THRESHREED_OFFSET(Replayed, report, 8);
+THRESHREED_OFFSET(Replayed, session, 32);
+
+THRESHREED_SIZE(Stopped, 2048);
+THRESHREED_OFFSET(Stopped, refusal, 0);
+THRESHREED_OFFSET(Stopped, copied, 8);
+THRESHREED_OFFSET(Stopped, session, 16);
+
+THRESHREED_SIZE(Snapped, 2080);
+THRESHREED_OFFSET(Snapped, refusal, 0);
+THRESHREED_OFFSET(Snapped, snapshot, 8);
+THRESHREED_OFFSET(Snapped, session, 48);
+
+THRESHREED_SIZE(Metered, 2088);
+THRESHREED_OFFSET(Metered, refusal, 0);
+THRESHREED_OFFSET(Metered, metrics, 8);
+THRESHREED_OFFSET(Metered, session, 56);
+
+/* ---- the proved functions, a session by value in and out */
+
+/* Opens a session on its first song. */
+ThreshreedLoaded threshreed_open(ThreshreedSettings settings, const uint64_t *queue, size_t queue_len,
+                                 const uint64_t *capture, size_t capture_len, float *pool, size_t pool_len,
+                                 const float *samples, size_t samples_len, uint32_t rate, uint64_t extent);
+
+/* Loads a clip: a song of a length, or a stinger. */
+ThreshreedLoaded threshreed_load(ThreshreedSession session, const uint64_t *queue, size_t queue_len,
+                                 const uint64_t *capture, size_t capture_len, float *pool, size_t pool_len,
+                                 const float *samples, size_t samples_len, uint32_t kind, uint64_t extent,
+                                 uint32_t rate);
+
+/* Retires a clip that nothing holds. */
+ThreshreedAnswered threshreed_retire(ThreshreedSession session, const uint64_t *queue, size_t queue_len,
+                                     const uint64_t *capture, size_t capture_len, ThreshreedHandle clip);
+
+/* Submits a command of one of nine kinds. */
+ThreshreedSubmitted threshreed_submit(ThreshreedSession session, uint64_t *queue, size_t queue_len, uint64_t *capture,
+                                      size_t capture_len, ThreshreedCommand command, ThreshreedAt at);
+
+/* Submits a transition in place of every queued one. */
+ThreshreedSubmitted threshreed_transition(ThreshreedSession session, uint64_t *queue, size_t queue_len,
+                                          uint64_t *capture, size_t capture_len, uint64_t frame, ThreshreedAt at);
+
+/* Queues the records of a list at their frames. */
+ThreshreedReplayed threshreed_replay(ThreshreedSession session, uint64_t *queue, size_t queue_len,
+                                     const uint64_t *capture, size_t capture_len, const uint64_t *list,
+                                     size_t list_len);
+
+/* Makes a block: half as many frames as the output has samples. */
+ThreshreedAnswered threshreed_block(ThreshreedSession session, const uint64_t *queue, size_t queue_len,
+                                    const uint64_t *capture, size_t capture_len, const float *pool, size_t pool_len,
+                                    float *out, size_t out_len);
+
+/* Starts capture, empty. */
+ThreshreedAnswered threshreed_start_capture(ThreshreedSession session, const uint64_t *queue, size_t queue_len,
+                                            const uint64_t *capture, size_t capture_len);
+
+/* Stops capture and copies its records to the list's front. */
+ThreshreedStopped threshreed_stop_capture(ThreshreedSession session, const uint64_t *queue, size_t queue_len,
+                                          const uint64_t *capture, size_t capture_len, uint64_t *list,
+                                          size_t list_len);
+
+/* Takes a control snapshot. */
+ThreshreedSnapped threshreed_snapshot(ThreshreedSession session, const uint64_t *queue, size_t queue_len,
+                                      const uint64_t *capture, size_t capture_len);
+
+/* Applies a control snapshot. */
+ThreshreedAnswered threshreed_apply_snapshot(ThreshreedSession session, const uint64_t *queue, size_t queue_len,
+                                             const uint64_t *capture, size_t capture_len, ThreshreedSnapshot snapshot);
+
+/* Reads the metrics. */
+ThreshreedMetered threshreed_metrics(ThreshreedSession session, const uint64_t *queue, size_t queue_len,
+                                     const uint64_t *capture, size_t capture_len);
+
+/* ---- a session together with its stores */
+
+typedef struct {
+    ThreshreedSession session;
+    uint64_t *queue;
+    size_t queue_len;
+    uint64_t *capture;
+    size_t capture_len;
+    float *pool;
+    size_t pool_len;
+} Threshreed;
+
+/* Lends the stores: THRESHREED_WORDS words for each of the 1 to 4,096 commands of the queue and of the 0 to 4,096 of the
+ * capture, two samples for each of the 1 to 33,554,432 frames of the pool. They are the session's until its end. There
+ * is none yet, and every call but tr_open is refused with 1. */
+static inline void tr_lend(Threshreed *t, uint64_t *queue, size_t queue_len, uint64_t *capture, size_t capture_len,
+                           float *pool, size_t pool_len)
+{
+    /* The library takes no null pointer, also where it reads nothing: here and below something else stands in. */
+    static uint64_t no_words;
+    static float no_samples;
+    memset(&t->session, 0, sizeof t->session);
+    t->queue = queue ? queue : &no_words;
+    t->queue_len = queue_len;
+    t->capture = capture ? capture : &no_words;
+    t->capture_len = capture_len;
+    t->pool = pool ? pool : &no_samples;
+    t->pool_len = pool_len;
+}
+
+/* Opens a session on its first song, stopped at 0, gain 1.0. `length` in frames, from those in the samples to 2^40: past
+ * its samples a song is silent. */
+static inline uint32_t tr_open(Threshreed *t, uint32_t rate, const float *samples, size_t samples_len,
+                               uint32_t song_rate, uint64_t length)
+{
+    ThreshreedSettings settings;
+    settings.rate = rate;
+    settings.queue = t->queue_len / THRESHREED_WORDS;
+    settings.capture = t->capture_len / THRESHREED_WORDS;
+    settings.pool = t->pool_len / 2;
+    ThreshreedLoaded r = threshreed_open(settings, t->queue, t->queue_len, t->capture, t->capture_len, t->pool,
+                                         t->pool_len, samples ? samples : t->pool, samples_len, song_rate, length);
+    t->session = r.session;
+    return r.refusal;
+}
+
+/* Loads a song of a length. Its handle is written if it is loaded, as is every result below. */
+static inline uint32_t tr_load_song(Threshreed *t, const float *samples, size_t samples_len, uint32_t rate,
+                                    uint64_t length, ThreshreedHandle *handle)
+{
+    ThreshreedLoaded r = threshreed_load(t->session, t->queue, t->queue_len, t->capture, t->capture_len, t->pool,
+                                         t->pool_len, samples ? samples : t->pool, samples_len, THRESHREED_CLIP_SONG, length,
+                                         rate);
+    t->session = r.session;
+    if (r.refusal == 0) {
+        *handle = r.handle;
+    }
+    return r.refusal;
+}
+
+/* Loads a stinger. */
+static inline uint32_t tr_load_stinger(Threshreed *t, const float *samples, size_t samples_len, uint32_t rate,
+                                       ThreshreedHandle *handle)
+{
+    ThreshreedLoaded r = threshreed_load(t->session, t->queue, t->queue_len, t->capture, t->capture_len, t->pool,
+                                         t->pool_len, samples ? samples : t->pool, samples_len, THRESHREED_CLIP_STINGER, 0, rate);
+    t->session = r.session;
+    if (r.refusal == 0) {
+        *handle = r.handle;
+    }
+    return r.refusal;
+}
+
+/* Retires a clip that neither song, tail, voice, queue nor running capture holds. Its slot and its room are free. */
+static inline uint32_t tr_retire(Threshreed *t, ThreshreedHandle clip)
+{
+    ThreshreedAnswered r =
+        threshreed_retire(t->session, t->queue, t->queue_len, t->capture, t->capture_len, clip);
+    t->session = r.session;
+    return r.refusal;
+}
+
+/* Submits a command, whose number is then the session's last, `t->session.number`. Commands are executed by frame,
+ * those of one frame by number. */
+static inline uint32_t tr_submit(Threshreed *t, ThreshreedCommand command, ThreshreedAt at)
+{
+    ThreshreedSubmitted r =
+        threshreed_submit(t->session, t->queue, t->queue_len, t->capture, t->capture_len, command, at);
+    t->session = r.session;
+    return r.refusal;
+}
+
+/* Submits a seek that takes the place of every queued transition. */
+static inline uint32_t tr_transition(Threshreed *t, uint64_t frame, ThreshreedAt at)
+{
+    ThreshreedSubmitted r =
+        threshreed_transition(t->session, t->queue, t->queue_len, t->capture, t->capture_len, frame, at);
+    t->session = r.session;
+    return r.refusal;
+}
+
+/* Queues a list's records, THRESHREED_WORDS words each, at their frames, without capture. */
+static inline uint32_t tr_replay(Threshreed *t, const uint64_t *list, size_t list_len, ThreshreedReport *report)
+{
+    ThreshreedReplayed r = threshreed_replay(t->session, t->queue, t->queue_len, t->capture, t->capture_len,
+                                             list ? list : t->queue, list_len);
+    t->session = r.session;
+    if (r.refusal == 0) {
+        *report = r.report;
+    }
+    return r.refusal;
+}
+
+/* Makes a block of half as many frames as `out` has samples, each due command at its frame. A refused block leaves `out`
+ * as it was. */
+static inline uint32_t tr_block(Threshreed *t, float *out, size_t out_len)
+{
+    ThreshreedAnswered r = threshreed_block(t->session, t->queue, t->queue_len, t->capture, t->capture_len, t->pool,
+                                            t->pool_len, out ? out : t->pool, out_len);
+    t->session = r.session;
+    return r.refusal;
+}
+
+/* Starts capture, empty, also while it runs. */
+static inline uint32_t tr_start_capture(Threshreed *t)
+{
+    ThreshreedAnswered r =
+        threshreed_start_capture(t->session, t->queue, t->queue_len, t->capture, t->capture_len);
+    t->session = r.session;
+    return r.refusal;
+}
+
+/* Stops capture and copies its records to the list's front; none if capture is off. */
+static inline uint32_t tr_stop_capture(Threshreed *t, uint64_t *list, size_t list_len, size_t *copied)
+{
+    ThreshreedStopped r = threshreed_stop_capture(t->session, t->queue, t->queue_len, t->capture, t->capture_len,
+                                                  list ? list : t->queue, list_len);
+    t->session = r.session;
+    if (r.refusal == 0) {
+        *copied = r.copied;
+    }
+    return r.refusal;
+}
+
+/* Takes a control snapshot: position, state, the gain that the master is heading for, loop. */
+static inline uint32_t tr_snapshot(const Threshreed *t, ThreshreedSnapshot *snapshot)
+{
+    ThreshreedSnapped r = threshreed_snapshot(t->session, t->queue, t->queue_len, t->capture, t->capture_len);
+    if (r.refusal == 0) {
+        *snapshot = r.snapshot;
+    }
+    return r.refusal;
+}
+
+/* Applies a control snapshot at once. Clock, queue, tail and voices stay. */
+static inline uint32_t tr_apply_snapshot(Threshreed *t, ThreshreedSnapshot snapshot)
+{
+    ThreshreedAnswered r =
+        threshreed_apply_snapshot(t->session, t->queue, t->queue_len, t->capture, t->capture_len, snapshot);
+    t->session = r.session;
+    return r.refusal;
+}
+
+/* Reads the metrics. */
+static inline uint32_t tr_metrics(const Threshreed *t, ThreshreedMetrics *metrics)
+{
+    ThreshreedMetered r = threshreed_metrics(t->session, t->queue, t->queue_len, t->capture, t->capture_len);
+    if (r.refusal == 0) {
+        *metrics = r.metrics;
+    }
+    return r.refusal;
+}
+
+/* ---- what a host reads */
+
+/* The clock: frames rendered. */
+static inline uint64_t tr_clock(const Threshreed *t) { return t->session.clock; }
+
+/* The song position. */
+static inline uint64_t tr_position(const Threshreed *t) { return t->session.position; }
+
+/* THRESHREED_STOPPED, THRESHREED_PLAYING or THRESHREED_PAUSED. */
+static inline uint32_t tr_state(const Threshreed *t) { return t->session.state; }
+
+/* The loop, if one is set. */
+static inline ThreshreedLoop tr_loop_range(const Threshreed *t) { return t->session.looped; }
+
+/* The master gain: the value that it is heading for. */
+static inline float tr_master_gain(const Threshreed *t) { return t->session.master.target; }
+
+/* The song that plays. */
+static inline ThreshreedHandle tr_song(const Threshreed *t) { return t->session.song; }
+
+/* How many commands are queued. */
+static inline size_t tr_queue_depth(const Threshreed *t) { return t->session.queued; }
+
+/* Whether a handle stands for a loaded clip. */
+static inline bool tr_is_live(const Threshreed *t, ThreshreedHandle clip)
+{
+    return clip.slot < THRESHREED_SLOTS && (t->session.used >> clip.slot & 1) == 1 &&
+           t->session.clips[clip.slot].serial == clip.serial;
+}
+
+/* ---- commands and when they are due */
+
+static inline ThreshreedCommand tr_command(uint32_t kind)
+{
+    ThreshreedCommand x;
+    memset(&x, 0, sizeof x);
+    x.kind = kind;
+    return x;
+}
+
+static inline ThreshreedCommand tr_play(void) { return tr_command(THRESHREED_PLAY); }
+
+static inline ThreshreedCommand tr_pause(void) { return tr_command(THRESHREED_PAUSE); }
+
+/* To position 0; a loop is kept. */
+static inline ThreshreedCommand tr_stop(void) { return tr_command(THRESHREED_STOP); }
+
+/* To a song frame, held to the song's length. */
+static inline ThreshreedCommand tr_seek(uint64_t frame)
+{
+    ThreshreedCommand x = tr_command(THRESHREED_SEEK);
+    x.frame = frame;
+    return x;
+}
+
+/* Taken if start < end <= the song's length, else nothing. */
+static inline ThreshreedCommand tr_loop(uint64_t start, uint64_t end)
+{
+    ThreshreedCommand x = tr_command(THRESHREED_LOOP);
+    x.frame = start;
+    x.end = end;
+    return x;
+}
+
+static inline ThreshreedCommand tr_clear_loop(void) { return tr_command(THRESHREED_CLEAR_LOOP); }
+
+/* The master gain, held to 0..2, reached in 256 frames. */
+static inline ThreshreedCommand tr_gain(float gain)
+{
+    ThreshreedCommand x = tr_command(THRESHREED_GAIN);
+    x.gain = gain;
+    return x;
+}
+
+/* The song under the handle plays from 0 with no loop; the old one fades out in 1,024 frames. */
+static inline ThreshreedCommand tr_swap(ThreshreedHandle clip)
+{
+    ThreshreedCommand x = tr_command(THRESHREED_SWAP);
+    x.clip = clip;
+    return x;
+}
+
+/* The stinger under the handle sounds at a gain; below 0 is 0. */
+static inline ThreshreedCommand tr_stinger(ThreshreedHandle clip, float gain)
+{
+    ThreshreedCommand x = tr_command(THRESHREED_STINGER);
+    x.clip = clip;
+    x.gain = gain;
+    return x;
+}
+
+static inline ThreshreedAt tr_at(uint32_t kind, uint64_t frame)
+{
+    ThreshreedAt x;
+    x.kind = kind;
+    x.frame = frame;
+    return x;
+}
+
+static inline ThreshreedAt tr_now(void) { return tr_at(THRESHREED_AT_ONCE, 0); }
+
+/* At a clock frame; one that has passed is executed at once. */
+static inline ThreshreedAt tr_at_clock(uint64_t frame) { return tr_at(THRESHREED_AT_CLOCK, frame); }
+
+/* When the song comes to a frame, through its loop if it has one; at once if it does not come there. */
+static inline ThreshreedAt tr_at_song(uint64_t frame) { return tr_at(THRESHREED_AT_SONG, frame); }
+
+#ifdef __cplusplus
+}
+#endif
+
+#endif
