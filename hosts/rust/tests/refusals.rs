@@ -1,0 +1,378 @@
+//! Each refusal number at a call that gives it, and that a refused call changes nothing.
+
+use threshreed::Refusal::*;
+use threshreed::{
+    At, Command, Metrics, Refusal, Report, Session, Snapshot, Song, SongFrame, State, Stinger,
+    Stores, WORDS, raw,
+};
+
+const RATE: u32 = 48_000;
+const PAIR: [f32; 2] = [0.5, -0.5];
+
+/// A clip of one frame.
+fn song() -> Song<'static> {
+    Song::new(&PAIR, RATE)
+}
+
+fn stinger() -> Stinger<'static> {
+    Stinger {
+        samples: &PAIR,
+        rate: RATE,
+    }
+}
+
+type Small = Stores<20, 1, 40>;
+
+fn open(stores: &mut Small) -> Session<'_> {
+    stores.open(RATE, song()).unwrap()
+}
+
+fn now(session: &mut Session, command: Command) -> Result<u64, Refusal> {
+    session.submit(command, At::Immediate)
+}
+
+#[test]
+fn opening() {
+    let open = |rate, words, samples, song| {
+        let (mut queue, mut pool) = (vec![0; words], vec![0.0; samples]);
+        Session::open(rate, &mut queue, &mut [], &mut pool, song).err()
+    };
+    let lasting = |length| Song {
+        length: SongFrame(length),
+        ..song()
+    };
+    assert_eq!(open(RATE, 5, 2, song()), None);
+    assert_eq!(open(RATE, 6, 2, song()), Some(NotWellFormed));
+    assert_eq!(open(RATE, 5, 3, song()), Some(PoolLength));
+    let clip = |samples| Song::new(samples, RATE);
+    assert_eq!(open(RATE, 5, 2, clip(&[0.5; 3])), Some(OddSamples));
+    assert_eq!(open(RATE, 5, 2, clip(&[])), Some(NoSamples));
+    assert_eq!(open(RATE, 5, 2, clip(&[17.0; 2])), Some(BadSample));
+    assert_eq!(open(7_999, 5, 2, song()), Some(OutOfRange));
+    assert_eq!(open(192_001, 5, 2, song()), Some(OutOfRange));
+    assert_eq!(open(RATE, 0, 2, song()), Some(OutOfRange));
+    assert_eq!(open(RATE, 5 * 4_097, 2, song()), Some(OutOfRange));
+    assert_eq!(open(RATE, 5, 0, song()), Some(OutOfRange));
+    assert_eq!(open(RATE, 5, 2, lasting(0)), Some(OutOfRange));
+    assert_eq!(open(RATE, 5, 2, lasting((1 << 40) + 1)), Some(OutOfRange));
+    assert_eq!(open(44_100, 5, 2, song()), Some(WrongRate));
+    assert_eq!(open(RATE, 5, 2, clip(&[0.5; 4])), Some(NoRoom));
+}
+
+#[test]
+fn loading() {
+    let mut stores = Small::new();
+    let mut session = open(&mut stores);
+    let mut load = |samples: &[f32], rate| session.load_song(Song::new(samples, rate)).err();
+    assert_eq!(load(&[0.5], RATE), Some(OddSamples));
+    assert_eq!(load(&[], RATE), Some(NoSamples));
+    for bad in [f32::NAN, f32::INFINITY, 16.5, -16.5] {
+        assert_eq!(load(&[0.0, bad], RATE), Some(BadSample));
+    }
+    assert_eq!(load(&PAIR, 7_999), Some(OutOfRange));
+    assert_eq!(load(&[0.5; 80], RATE), Some(NoRoom));
+    for _ in 1..32 {
+        assert_eq!(load(&PAIR, RATE), None);
+    }
+    assert_eq!(load(&PAIR, RATE), Some(SlotsUsed));
+    assert_eq!(session.load_stinger(stinger()), Err(SlotsUsed));
+}
+
+#[test]
+fn blocks() {
+    let mut stores = Small::new();
+    let mut session = open(&mut stores);
+    now(&mut session, Command::Play).unwrap();
+    let mut out = [9.0; 3];
+    assert_eq!(session.block(&mut out), Err(OddSamples));
+    assert_eq!(out, [9.0; 3]);
+    assert_eq!(session.block(&mut []), Ok(()));
+    assert_eq!(session.queue_depth(), 1);
+}
+
+#[test]
+fn submissions() {
+    let mut stores = Small::new();
+    let mut session = open(&mut stores);
+    let bell = session.load_stinger(stinger()).unwrap();
+    let slow = session.load_song(Song::new(&PAIR, 44_100)).unwrap();
+    let first = session.song();
+    for gain in [f32::NAN, f32::INFINITY, f32::NEG_INFINITY] {
+        assert_eq!(now(&mut session, Command::Gain(gain)), Err(BadGain));
+    }
+    let loud = Command::Stinger(bell, 16.5);
+    assert_eq!(now(&mut session, loud), Err(BadGain));
+    assert_eq!(now(&mut session, Command::Swap(bell)), Err(WrongKind));
+    let sung = Command::Stinger(first, 1.0);
+    assert_eq!(now(&mut session, sung), Err(WrongKind));
+    assert_eq!(now(&mut session, Command::Swap(slow)), Err(WrongRate));
+    session.retire(slow).unwrap();
+    assert_eq!(now(&mut session, Command::Swap(slow)), Err(Stale));
+
+    session.start_capture().unwrap();
+    now(&mut session, Command::Play).unwrap();
+    assert_eq!(now(&mut session, Command::Play), Err(CaptureFull));
+    session.stop_capture(&mut [0; WORDS]).unwrap();
+
+    for _ in 0..16 {
+        now(&mut session, Command::Stinger(bell, 1.0)).unwrap();
+    }
+    let one_more = Command::Stinger(bell, 1.0);
+    assert_eq!(now(&mut session, one_more), Err(VoicesTaken));
+
+    for _ in 17..20 {
+        now(&mut session, Command::Play).unwrap();
+    }
+    assert_eq!(session.metrics().unwrap().dropped, 0);
+    assert_eq!(now(&mut session, Command::Play), Err(QueueFull));
+    assert_eq!(
+        session.transition(SongFrame(0), At::Immediate),
+        Err(QueueFull)
+    );
+    let expected = Metrics {
+        rendered: 0,
+        executed: 0,
+        dropped: 2,
+        deepest: 20,
+        swaps: 0,
+        fired: 0,
+    };
+    assert_eq!(session.metrics(), Ok(expected));
+}
+
+#[test]
+fn retiring() {
+    let mut stores = Small::new();
+    let mut session = open(&mut stores);
+    assert_eq!(session.retire(session.song()), Err(Held));
+    let bell = session.load_stinger(stinger()).unwrap();
+    now(&mut session, Command::Stinger(bell, 1.0)).unwrap();
+    assert_eq!(session.retire(bell), Err(Held));
+    session.block(&mut [0.0; 4]).unwrap();
+    assert_eq!(session.retire(bell), Ok(()));
+    assert_eq!(session.retire(bell), Err(Stale));
+}
+
+#[test]
+fn snapshots() {
+    let mut stores = Small::new();
+    let mut session = open(&mut stores);
+    for gain in [-0.5, 2.5, f32::NAN] {
+        let snapshot = Snapshot {
+            position: SongFrame(0),
+            state: State::Playing,
+            gain,
+            looped: None,
+        };
+        assert_eq!(session.apply_snapshot(snapshot), Err(BadGain));
+    }
+    assert_eq!(session.state(), State::Stopped);
+}
+
+#[test]
+fn captures_and_replays() {
+    let mut stores = Small::new();
+    let mut session = open(&mut stores);
+    session.start_capture().unwrap();
+    now(&mut session, Command::Play).unwrap();
+    assert_eq!(session.stop_capture(&mut [0; 4]), Err(ListTooShort));
+    let mut list = [0; WORDS];
+    assert_eq!(session.stop_capture(&mut list), Ok(1));
+
+    // The list's kind 11 is none, its slot 31 has no clip.
+    let list = [[0, 1, 11, 0, 0], [0, 2, 9, 31 << 32, 0], list];
+    let expected = Report {
+        taken: 1,
+        full: 0,
+        skipped: 2,
+    };
+    assert_eq!(session.replay(list.as_flattened()), Ok(expected));
+}
+
+/// A session by hand, for what no host with a `Session` comes to.
+struct ByHand {
+    session: raw::Session,
+    queue: [u64; 2 * WORDS],
+    pool: [f32; 4],
+}
+
+impl ByHand {
+    fn open() -> ByHand {
+        let (queue, mut pool) = ([0; 2 * WORDS], [0.0; 4]);
+        let settings = raw::Settings {
+            rate: RATE,
+            queue: 2,
+            capture: 0,
+            pool: 2,
+        };
+        let none: &[u64] = &[];
+        let opened = unsafe {
+            raw::threshreed_open(
+                settings,
+                queue.as_ptr(),
+                queue.len(),
+                none.as_ptr(),
+                0,
+                pool.as_mut_ptr(),
+                pool.len(),
+                PAIR.as_ptr(),
+                PAIR.len(),
+                RATE,
+                1,
+            )
+        };
+        assert_eq!(opened.refusal, 0);
+        ByHand {
+            session: opened.session,
+            queue,
+            pool,
+        }
+    }
+
+    /// Opens a session and changes it.
+    fn with(change: impl FnOnce(&mut raw::Session)) -> ByHand {
+        let mut opened = ByHand::open();
+        change(&mut opened.session);
+        opened
+    }
+
+    fn block(&self) -> u32 {
+        let (none, mut out): (&[u64], _) = (&[], [9.0; 2]);
+        let answered = unsafe {
+            raw::threshreed_block(
+                self.session,
+                self.queue.as_ptr(),
+                self.queue.len(),
+                none.as_ptr(),
+                0,
+                self.pool.as_ptr(),
+                self.pool.len(),
+                out.as_mut_ptr(),
+                out.len(),
+            )
+        };
+        if answered.refusal != 0 {
+            assert_eq!(answered.session, self.session);
+            assert_eq!(out, [9.0; 2]);
+        }
+        answered.refusal
+    }
+
+    fn load(&mut self, kind: u32) -> u32 {
+        let none: &[u64] = &[];
+        let loaded = unsafe {
+            raw::threshreed_load(
+                self.session,
+                self.queue.as_ptr(),
+                self.queue.len(),
+                none.as_ptr(),
+                0,
+                self.pool.as_mut_ptr(),
+                self.pool.len(),
+                PAIR.as_ptr(),
+                PAIR.len(),
+                kind,
+                1,
+                RATE,
+            )
+        };
+        loaded.refusal
+    }
+
+    fn submit(&mut self, kind: u32, at: u32) -> u32 {
+        let none: &mut [u64] = &mut [];
+        let command = raw::Command {
+            kind,
+            gain: 1.0,
+            clip: self.session.song,
+            frame: 0,
+            end: 0,
+        };
+        let submitted = unsafe {
+            raw::threshreed_submit(
+                self.session,
+                self.queue.as_mut_ptr(),
+                self.queue.len(),
+                none.as_mut_ptr(),
+                0,
+                command,
+                raw::At { kind: at, frame: 0 },
+            )
+        };
+        submitted.refusal
+    }
+
+    fn apply(&self, state: u32, set: u32) -> u32 {
+        let none: &[u64] = &[];
+        let snapshot = raw::Snapshot {
+            position: 0,
+            state,
+            gain: 1.0,
+            looped: raw::Loop {
+                set,
+                start: 0,
+                end: 1,
+            },
+        };
+        let answered = unsafe {
+            raw::threshreed_apply_snapshot(
+                self.session,
+                self.queue.as_ptr(),
+                self.queue.len(),
+                none.as_ptr(),
+                0,
+                snapshot,
+            )
+        };
+        answered.refusal
+    }
+}
+
+#[test]
+fn what_is_spent() {
+    let end = 1 << 62;
+    assert_eq!(ByHand::with(|s| s.clock = end - 1).block(), 0);
+    assert_eq!(ByHand::with(|s| s.clock = end).block(), ClockSpent.number());
+    assert_eq!(ByHand::with(|s| s.last = u32::MAX - 1).load(2), 0);
+    assert_eq!(
+        ByHand::with(|s| s.last = u32::MAX).load(2),
+        SerialsSpent.number()
+    );
+    assert_eq!(ByHand::with(|s| s.number = u64::MAX - 1).submit(1, 1), 0);
+    assert_eq!(
+        ByHand::with(|s| s.number = u64::MAX).submit(1, 1),
+        NumbersSpent.number()
+    );
+}
+
+#[test]
+fn a_session_that_is_not_well_formed() {
+    let changes: [fn(&mut raw::Session); 6] = [
+        |s| s.state = 3,
+        |s| s.looped.set = 2,
+        |s| s.capturing = 2,
+        |s| s.clips[31].kind = 0,
+        |s| s.position = 2,
+        |s| s.queued = usize::MAX,
+    ];
+    for change in changes {
+        assert_eq!(ByHand::with(change).block(), NotWellFormed.number());
+    }
+}
+
+#[test]
+fn an_argument_that_names_no_case() {
+    let mut opened = ByHand::open();
+    assert_eq!([1, 2].map(|kind| opened.load(kind)), [0, 0]);
+    assert_eq!([0, 3].map(|kind| opened.load(kind)), [22, 22]);
+    assert_eq!([1, 9].map(|kind| opened.submit(kind, 1)), [0, 0]);
+    assert_eq!(
+        [0, 5, 11, u32::MAX].map(|kind| opened.submit(kind, 1)),
+        [22; 4]
+    );
+    assert_eq!([0, 4].map(|at| opened.submit(1, at)), [22, 22]);
+    assert_eq!(opened.apply(2, 1), 0);
+    assert_eq!([(3, 0), (0, 2)].map(|(x, y)| opened.apply(x, y)), [22, 22]);
+    let mut bad = ByHand::with(|s| s.state = 3);
+    assert_eq!([bad.load(3), bad.submit(5, 1), bad.apply(3, 0)], [1; 3]);
+}
