@@ -509,13 +509,13 @@ static inline uint32_t tr_open(Threshreed *t, uint32_t rate, const float *sample
     return r.refusal;
 }
 
-/* Loads a song of a length. Its handle is written if it is loaded, as is every result below. */
-static inline uint32_t tr_load_song(Threshreed *t, const float *samples, size_t samples_len, uint32_t rate,
-                                    uint64_t length, ThreshreedHandle *handle)
+/* Loads a clip of a kind. */
+static inline uint32_t tr_load(Threshreed *t, const float *samples, size_t samples_len, uint32_t kind, uint64_t length,
+                               uint32_t rate, ThreshreedHandle *handle)
 {
-    ThreshreedLoaded r = threshreed_load(t->session, t->queue, t->queue_len, t->capture, t->capture_len, t->pool,
-                                         t->pool_len, samples ? samples : t->pool, samples_len, THRESHREED_CLIP_SONG, length,
-                                         rate);
+    ThreshreedLoaded r =
+        threshreed_load(t->session, t->queue, t->queue_len, t->capture, t->capture_len, t->pool, t->pool_len,
+                        samples ? samples : t->pool, samples_len, kind, length, rate);
     t->session = r.session;
     if (r.refusal == 0) {
         *handle = r.handle;
@@ -523,17 +523,19 @@ static inline uint32_t tr_load_song(Threshreed *t, const float *samples, size_t 
     return r.refusal;
 }
 
-/* Loads a stinger. */
+/* Loads a song of a length into the lowest free slot and the lowest room in the pool where it fits. The handle is
+ * written if it is loaded, as is every result below if the call is not refused. */
+static inline uint32_t tr_load_song(Threshreed *t, const float *samples, size_t samples_len, uint32_t rate,
+                                    uint64_t length, ThreshreedHandle *handle)
+{
+    return tr_load(t, samples, samples_len, THRESHREED_CLIP_SONG, length, rate, handle);
+}
+
+/* Loads a stinger likewise. */
 static inline uint32_t tr_load_stinger(Threshreed *t, const float *samples, size_t samples_len, uint32_t rate,
                                        ThreshreedHandle *handle)
 {
-    ThreshreedLoaded r = threshreed_load(t->session, t->queue, t->queue_len, t->capture, t->capture_len, t->pool,
-                                         t->pool_len, samples ? samples : t->pool, samples_len, THRESHREED_CLIP_STINGER, 0, rate);
-    t->session = r.session;
-    if (r.refusal == 0) {
-        *handle = r.handle;
-    }
-    return r.refusal;
+    return tr_load(t, samples, samples_len, THRESHREED_CLIP_STINGER, 0, rate, handle);
 }
 
 /* Retires a clip that neither song, tail, voice, queue nor running capture holds. Its slot and its room are free. */

@@ -2,7 +2,7 @@
 //!
 //! Every `unsafe` below is one call of the library. It asks of a pointer that it is aligned and not null, stands for so
 //! many elements, and that a store that is written overlaps no other: slices and their borrows give just that, an empty
-//! slice too.
+//! slice too. Nothing is kept of a pointer after the call.
 
 use core::fmt;
 
@@ -90,6 +90,22 @@ impl<const QUEUE: usize, const CAPTURE: usize, const POOL: usize> Default
     }
 }
 
+/// A call of the library on a session: its queue and its capture are lent first, then what the call takes.
+macro_rules! call {
+    ($session:ident, $name:ident $(, $argument:expr)*) => {
+        unsafe {
+            raw::$name(
+                $session.raw,
+                $session.queue.as_mut_ptr(),
+                $session.queue.len(),
+                $session.capture.as_mut_ptr(),
+                $session.capture.len(),
+                $($argument),*
+            )
+        }
+    };
+}
+
 /// A session and its stores. Every call answers at once, allocates nothing, and is safe with any argument: what it does
 /// not take it refuses, and is then as if it had not been made.
 pub struct Session<'a> {
@@ -168,22 +184,17 @@ impl<'a> Session<'a> {
         extent: SongFrame,
         rate: u32,
     ) -> Result<Handle, Refusal> {
-        let loaded = unsafe {
-            raw::threshreed_load(
-                self.raw,
-                self.queue.as_ptr(),
-                self.queue.len(),
-                self.capture.as_ptr(),
-                self.capture.len(),
-                self.pool.as_mut_ptr(),
-                self.pool.len(),
-                samples.as_ptr(),
-                samples.len(),
-                kind,
-                extent.0,
-                rate,
-            )
-        };
+        let loaded = call!(
+            self,
+            threshreed_load,
+            self.pool.as_mut_ptr(),
+            self.pool.len(),
+            samples.as_ptr(),
+            samples.len(),
+            kind,
+            extent.0,
+            rate
+        );
         self.raw = loaded.session;
         Refusal::check(loaded.refusal)?;
         Ok(Handle(loaded.handle))
@@ -204,16 +215,7 @@ impl<'a> Session<'a> {
     /// # Ok::<(), Refusal>(())
     /// ```
     pub fn retire(&mut self, clip: Handle) -> Result<(), Refusal> {
-        let answered = unsafe {
-            raw::threshreed_retire(
-                self.raw,
-                self.queue.as_ptr(),
-                self.queue.len(),
-                self.capture.as_ptr(),
-                self.capture.len(),
-                clip.0,
-            )
-        };
+        let answered = call!(self, threshreed_retire, clip.0);
         self.answer(answered)
     }
 
@@ -231,50 +233,20 @@ impl<'a> Session<'a> {
     /// # Ok::<(), threshreed::Refusal>(())
     /// ```
     pub fn submit(&mut self, command: Command, at: At) -> Result<u64, Refusal> {
-        let submitted = unsafe {
-            raw::threshreed_submit(
-                self.raw,
-                self.queue.as_mut_ptr(),
-                self.queue.len(),
-                self.capture.as_mut_ptr(),
-                self.capture.len(),
-                command.into(),
-                at.into(),
-            )
-        };
+        let submitted = call!(self, threshreed_submit, command.into(), at.into());
         self.number(submitted)
     }
 
     /// Submits a seek that takes the place of every queued transition, and answers its number.
     pub fn transition(&mut self, frame: SongFrame, at: At) -> Result<u64, Refusal> {
-        let submitted = unsafe {
-            raw::threshreed_transition(
-                self.raw,
-                self.queue.as_mut_ptr(),
-                self.queue.len(),
-                self.capture.as_mut_ptr(),
-                self.capture.len(),
-                frame.0,
-                at.into(),
-            )
-        };
+        let submitted = call!(self, threshreed_transition, frame.0, at.into());
         self.number(submitted)
     }
 
     /// Queues a list's records, [`WORDS`] words each, at their frames, without capture. Tells how many were taken, how
     /// many found the queue full, and how many were skipped otherwise.
     pub fn replay(&mut self, list: &[u64]) -> Result<Report, Refusal> {
-        let replayed = unsafe {
-            raw::threshreed_replay(
-                self.raw,
-                self.queue.as_mut_ptr(),
-                self.queue.len(),
-                self.capture.as_ptr(),
-                self.capture.len(),
-                list.as_ptr(),
-                list.len(),
-            )
-        };
+        let replayed = call!(self, threshreed_replay, list.as_ptr(), list.len());
         self.raw = replayed.session;
         Refusal::check(replayed.refusal)?;
         Ok(replayed.report)
@@ -283,33 +255,20 @@ impl<'a> Session<'a> {
     /// Makes a block of half as many frames as `out` has samples, and executes each command that is due in it at its
     /// frame. A refused block leaves `out` as it was.
     pub fn block(&mut self, out: &mut [f32]) -> Result<(), Refusal> {
-        let answered = unsafe {
-            raw::threshreed_block(
-                self.raw,
-                self.queue.as_ptr(),
-                self.queue.len(),
-                self.capture.as_ptr(),
-                self.capture.len(),
-                self.pool.as_ptr(),
-                self.pool.len(),
-                out.as_mut_ptr(),
-                out.len(),
-            )
-        };
+        let answered = call!(
+            self,
+            threshreed_block,
+            self.pool.as_ptr(),
+            self.pool.len(),
+            out.as_mut_ptr(),
+            out.len()
+        );
         self.answer(answered)
     }
 
     /// Starts capture, empty, also while it runs.
     pub fn start_capture(&mut self) -> Result<(), Refusal> {
-        let answered = unsafe {
-            raw::threshreed_start_capture(
-                self.raw,
-                self.queue.as_ptr(),
-                self.queue.len(),
-                self.capture.as_ptr(),
-                self.capture.len(),
-            )
-        };
+        let answered = call!(self, threshreed_start_capture);
         self.answer(answered)
     }
 
@@ -329,17 +288,7 @@ impl<'a> Session<'a> {
     /// # Ok::<(), threshreed::Refusal>(())
     /// ```
     pub fn stop_capture(&mut self, list: &mut [u64]) -> Result<usize, Refusal> {
-        let stopped = unsafe {
-            raw::threshreed_stop_capture(
-                self.raw,
-                self.queue.as_ptr(),
-                self.queue.len(),
-                self.capture.as_ptr(),
-                self.capture.len(),
-                list.as_mut_ptr(),
-                list.len(),
-            )
-        };
+        let stopped = call!(self, threshreed_stop_capture, list.as_mut_ptr(), list.len());
         self.raw = stopped.session;
         Refusal::check(stopped.refusal)?;
         Ok(stopped.copied)
@@ -362,16 +311,7 @@ impl<'a> Session<'a> {
 
     /// Applies a control snapshot at once. Clock, queue, tail and voices stay.
     pub fn apply_snapshot(&mut self, snapshot: Snapshot) -> Result<(), Refusal> {
-        let answered = unsafe {
-            raw::threshreed_apply_snapshot(
-                self.raw,
-                self.queue.as_ptr(),
-                self.queue.len(),
-                self.capture.as_ptr(),
-                self.capture.len(),
-                snapshot.into(),
-            )
-        };
+        let answered = call!(self, threshreed_apply_snapshot, snapshot.into());
         self.answer(answered)
     }
 
@@ -428,8 +368,8 @@ impl<'a> Session<'a> {
     /// Whether a handle stands for a loaded clip.
     pub fn is_live(&self, clip: Handle) -> bool {
         let raw::Handle { slot, serial } = clip.0;
-        let used = self.raw.used.checked_shr(slot).is_some_and(|x| x & 1 == 1);
-        used && self.raw.clips[slot as usize].serial == serial
+        let loaded = self.raw.clips.get(slot as usize);
+        loaded.is_some_and(|x| x.serial == serial && self.raw.used >> slot & 1 == 1)
     }
 
     fn answer(&mut self, answered: raw::Answered) -> Result<(), Refusal> {

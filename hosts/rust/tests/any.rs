@@ -1,0 +1,219 @@
+//! Any arguments: long runs of calls made by dice, by a host that keeps its session and by one that changes it by hand.
+
+use threshreed::{
+    At, ClockFrame, Command, Handle, LoopRange, Refusal, Session, Snapshot, Song, SongFrame, State,
+    Stinger, Stores, WORDS, raw,
+};
+
+const RATE: u32 = 48_000;
+
+/// The same throws every time.
+struct Dice(u64);
+
+impl Dice {
+    fn word(&mut self) -> u64 {
+        self.0 ^= self.0 << 13;
+        self.0 ^= self.0 >> 7;
+        self.0 ^= self.0 << 17;
+        self.0
+    }
+
+    fn below(&mut self, n: u64) -> u64 {
+        self.word() % n
+    }
+
+    /// Mostly small, now and then anything.
+    fn count(&mut self) -> u64 {
+        match self.below(8) {
+            0 => self.word(),
+            _ => self.below(64),
+        }
+    }
+
+    /// Mostly a gain, now and then any bits.
+    fn gain(&mut self) -> f32 {
+        match self.below(8) {
+            0 => f32::from_bits(self.word() as u32),
+            _ => self.below(9) as f32 / 4.0,
+        }
+    }
+
+    fn samples(&mut self) -> Vec<f32> {
+        (0..self.below(40)).map(|_| self.gain()).collect()
+    }
+
+    fn at(&mut self, clock: ClockFrame) -> At {
+        match self.below(3) {
+            0 => At::Immediate,
+            1 => At::Frame(ClockFrame(clock.0.wrapping_add(self.count()))),
+            _ => At::Song(SongFrame(self.count())),
+        }
+    }
+
+    fn range(&mut self) -> LoopRange {
+        LoopRange {
+            start: SongFrame(self.count()),
+            end: SongFrame(self.count()),
+        }
+    }
+
+    fn of<T: Copy>(&mut self, list: &[T]) -> T {
+        list[self.below(list.len() as u64) as usize]
+    }
+
+    fn command(&mut self, handles: &[Handle]) -> Command {
+        match self.below(9) {
+            0 => Command::Pause,
+            1 => Command::Stop,
+            2 => Command::Seek(SongFrame(self.count())),
+            3 => Command::Loop(self.range()),
+            4 => Command::ClearLoop,
+            5 => Command::Gain(self.gain()),
+            6 => Command::Swap(self.of(handles)),
+            7 => Command::Stinger(self.of(handles), self.gain()),
+            _ => Command::Play,
+        }
+    }
+}
+
+/// One call of a session, with any arguments.
+fn step(session: &mut Session, dice: &mut Dice, handles: &mut Vec<Handle>) -> Result<(), Refusal> {
+    let at = dice.at(session.clock());
+    match dice.below(12) {
+        0 => {
+            let samples = dice.samples();
+            let song = Song {
+                length: SongFrame(dice.count()),
+                ..Song::new(&samples, RATE)
+            };
+            session.load_song(song).map(|x| handles.push(x))
+        }
+        1 => {
+            let samples = dice.samples();
+            let stinger = Stinger {
+                samples: &samples,
+                rate: RATE,
+            };
+            session.load_stinger(stinger).map(|x| handles.push(x))
+        }
+        2 => session.retire(dice.of(handles)),
+        3 => session.transition(SongFrame(dice.count()), at).map(drop),
+        4 => {
+            let list: Vec<u64> = (0..dice.below(20)).map(|_| dice.count()).collect();
+            session.replay(&list).map(drop)
+        }
+        5 => session.start_capture(),
+        6 => {
+            let mut list = vec![0; dice.below(50) as usize];
+            session.stop_capture(&mut list).map(drop)
+        }
+        7 => {
+            let snapshot = Snapshot {
+                position: SongFrame(dice.count()),
+                state: dice.of(&[State::Stopped, State::Playing, State::Paused]),
+                gain: dice.gain(),
+                looped: dice.of(&[true, false]).then(|| dice.range()),
+            };
+            session.apply_snapshot(snapshot)
+        }
+        8 => session.submit(dice.command(handles), at).map(drop),
+        _ => {
+            let mut out = vec![f32::NAN; dice.below(80) as usize];
+            let clock = session.clock().0;
+            session.block(&mut out)?;
+            assert_eq!(session.clock().0, clock + out.len() as u64 / 2);
+            assert!(out.iter().all(|x| x.is_finite()));
+            Ok(())
+        }
+    }
+}
+
+/// A host that keeps its session never sees it refused as not well formed.
+#[test]
+fn calls_with_any_arguments() {
+    let mut dice = Dice(0x9E37_79B9_7F4A_7C15);
+    let mut seen = [0; 23];
+    for _ in 0..50 {
+        let mut stores = Stores::<6, 4, 64>::new();
+        let mut session = stores.open(RATE, Song::new(&[0.5; 8], RATE)).unwrap();
+        let mut handles = vec![session.song()];
+        for _ in 0..400 {
+            let number = match step(&mut session, &mut dice, &mut handles) {
+                Ok(()) => 0,
+                Err(refusal) => refusal.number(),
+            };
+            seen[number as usize] += 1;
+            assert_eq!(session.metrics().unwrap().rendered, session.clock().0);
+            assert_eq!(session.snapshot().unwrap().state, session.state());
+            assert!(session.is_live(session.song()));
+        }
+    }
+    // The rest is out of such a host's reach, or asks for larger stores (8, 17) or a second rate (13).
+    let unseen: Vec<usize> = (0..23).filter(|&n| seen[n] == 0).collect();
+    assert_eq!(unseen, [1, 2, 4, 8, 9, 13, 17, 18, 21, 22]);
+}
+
+/// A session with any word of it changed is refused or plays; the library touches nothing that it is not lent.
+#[test]
+fn sessions_changed_by_hand() {
+    const WHOLE: usize = size_of::<raw::Session>() / 8;
+    let mut dice = Dice(0x2545_F491_4F6C_DD1D);
+    let mut refused = 0;
+    for _ in 0..20_000 {
+        let mut queue = [0; 2 * WORDS];
+        let mut pool = [0.5; 8];
+        let settings = raw::Settings {
+            rate: RATE,
+            queue: 2,
+            capture: 0,
+            pool: 4,
+        };
+        let none: &[u64] = &[];
+        let opened = unsafe {
+            raw::threshreed_open(
+                settings,
+                queue.as_ptr(),
+                queue.len(),
+                none.as_ptr(),
+                0,
+                pool.as_mut_ptr(),
+                pool.len(),
+                [0.5; 4].as_ptr(),
+                4,
+                RATE,
+                2,
+            )
+        };
+        assert_eq!(opened.refusal, 0);
+        let mut session = opened.session;
+        for _ in 0..1 + dice.below(3) {
+            let place = dice.below(WHOLE as u64) as usize;
+            let word = dice.count();
+            // Every field is a number of 4 or 8 bytes, so that any word can lie anywhere.
+            unsafe { (&raw mut session).cast::<u64>().add(place).write(word) };
+        }
+        for word in &mut queue {
+            *word = dice.count();
+        }
+        let mut out = [9.0; 3 * 16];
+        let answered = unsafe {
+            raw::threshreed_block(
+                session,
+                queue.as_ptr(),
+                queue.len(),
+                none.as_ptr(),
+                0,
+                pool.as_ptr(),
+                pool.len(),
+                out[16..].as_mut_ptr(),
+                16,
+            )
+        };
+        assert!(answered.refusal <= 4);
+        refused += usize::from(answered.refusal == 1);
+        assert_eq!(out[..16], [9.0; 16]);
+        assert_eq!(out[32..], [9.0; 16]);
+        assert_eq!(pool[4..], [0.5; 4]);
+    }
+    assert!((1..20_000).contains(&refused));
+}
