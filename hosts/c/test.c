@@ -35,6 +35,8 @@ int main(void)
     tr_lend(&t, NULL, 0, NULL, 0, NULL, 0);
     EXPECT(tr_open(&t, 48000, NULL, 0, 48000, 1) == THRESHREED_OUT_OF_RANGE);
     EXPECT(tr_block(&t, NULL, 0) == THRESHREED_NOT_WELL_FORMED);
+    tr_lend(&t, NULL, 40, NULL, 40, NULL, 8);
+    EXPECT(tr_open(&t, 48000, NULL, 8, 48000, 1) == THRESHREED_OUT_OF_RANGE);
     tr_lend(&t, queue, LEN(queue), NULL, 0, pool, LEN(pool));
     EXPECT(tr_block(&t, out, LEN(out)) == THRESHREED_NOT_WELL_FORMED);
     EXPECT(tr_open(&t, 48000, NULL, 0, 48000, 1) == THRESHREED_NO_SAMPLES);
@@ -48,7 +50,7 @@ int main(void)
 
     /* A song of two frames, heard. */
     EXPECT(tr_submit(&t, tr_play(), tr_now()) == 0 && t.session.number == 1 && tr_queue_depth(&t) == 1);
-    EXPECT(tr_block(&t, NULL, 0) == 0 && tr_queue_depth(&t) == 1);
+    EXPECT(tr_block(&t, NULL, 8) == 0 && tr_queue_depth(&t) == 1);
     EXPECT(tr_block(&t, out, LEN(out)) == 0);
     EXPECT(memcmp(out, pair, sizeof pair) == 0 && out[4] == 0.0f && out[7] == 0.0f);
     EXPECT(tr_clock(&t) == 4 && tr_position(&t) == 2 && tr_state(&t) == THRESHREED_STOPPED);
@@ -84,7 +86,7 @@ int main(void)
     }
     EXPECT(tr_transition(&t, 1, tr_now()) == 0 && tr_transition(&t, 0, tr_now()) == 0);
     EXPECT(tr_submit(&t, tr_stop(), tr_now()) == THRESHREED_QUEUE_FULL);
-    EXPECT(tr_replay(&t, NULL, 0, &report) == 0 && report.taken == 0);
+    EXPECT(tr_replay(&t, NULL, 5, &report) == 0 && report.taken == 0);
     EXPECT(tr_metrics(&t, &metrics) == 0 && metrics.rendered == 4 && metrics.dropped == 1 && metrics.deepest == 4);
 
     EXPECT(strcmp(threshreed_refusal(THRESHREED_STALE), "stale handle") == 0);

@@ -1,9 +1,10 @@
-/* Threshreed for a host in C (C11; a C++ host may include it too). Link with libhost.a, which `rt staticlib host` writes.
+/* Threshreed for a host in C11 (a C++ host may include it too). Link with libhost.a, which `rt staticlib host` writes.
+ * example.c is ten lines to the first sound, tour.c two minutes with every call.
  *
  * There is no heap. `Threshreed` holds a session and the stores that a host lends it, and the functions `tr_...` take a
- * pointer to it. Below them lie the proved functions themselves, `threshreed_...`, which take a session by value and hand
- * it back. Any argument is safe but a bad pointer: one that a host lends must stand for as many elements as it says, and
- * what is written must overlap nothing else that is lent. To a `tr_...` call NULL may be lent with length 0.
+ * pointer to it. Above them stand the proved functions themselves, `threshreed_...`, which take a session by value and
+ * hand it back. Any argument is safe but a bad pointer: what a host lends must have as many elements as it says, and
+ * what is written must overlap nothing else that is lent. A `tr_...` call takes NULL as nothing lent.
  *
  * Every `tr_...` call answers 0 or a refusal's number. A refused call leaves the session and all stores as they were;
  * 15 alone raises the dropped count.
@@ -49,18 +50,18 @@ extern "C" {
 
 /* THRESHREED_NOT_WELL_FORMED to THRESHREED_NO_SUCH_CASE. */
 enum {
-#define X(number, name, words) THRESHREED_##name = number,
-    THRESHREED_REFUSALS(X)
-#undef X
+#define THRESHREED_NAMED(number, name, words) THRESHREED_##name = number,
+    THRESHREED_REFUSALS(THRESHREED_NAMED)
+#undef THRESHREED_NAMED
 };
 
 /* A refusal in words. */
 static inline const char *threshreed_refusal(uint32_t number)
 {
     switch (number) {
-#define X(number, name, words) case number: return words;
-        THRESHREED_REFUSALS(X)
-#undef X
+#define THRESHREED_SAID(number, name, words) case number: return words;
+        THRESHREED_REFUSALS(THRESHREED_SAID)
+#undef THRESHREED_SAID
     default: return "none";
     }
 }
@@ -187,8 +188,8 @@ typedef struct {
     size_t captured;
 } ThreshreedSession;
 
-/* A kind uses the fields that it needs: a seek `frame`, a loop `frame` and `end`, a gain `gain`, a swap `clip`, a stinger
- * `clip` and `gain`. */
+/* A kind uses the fields that it needs: a seek `frame`, a loop `frame` and `end`, a gain `gain`, a swap `clip`, a
+ * stinger `clip` and `gain`. */
 typedef struct {
     uint32_t kind;
     float gain;
@@ -475,26 +476,26 @@ typedef struct {
     size_t pool_len;
 } Threshreed;
 
-/* Lends the stores: THRESHREED_WORDS words for each of the 1 to 4,096 commands of the queue and of the 0 to 4,096 of the
- * capture, two samples for each of the 1 to 33,554,432 frames of the pool. They are the session's until its end. There
- * is none yet, and every call but tr_open is refused with 1. */
+/* Lends the stores: THRESHREED_WORDS words for each of the 1 to 4,096 commands of the queue and of the 0 to 4,096 of
+ * the capture, two samples for each of the 1 to 33,554,432 frames of the pool. They are the session's until its end.
+ * There is none yet, and every call but tr_open is refused with 1. */
 static inline void tr_lend(Threshreed *t, uint64_t *queue, size_t queue_len, uint64_t *capture, size_t capture_len,
                            float *pool, size_t pool_len)
 {
-    /* The library takes no null pointer, also where it reads nothing: here and below something else stands in. */
+    /* The library takes no null pointer, also where it reads nothing: here and below another stands in. */
     static uint64_t no_words;
     static float no_samples;
     memset(&t->session, 0, sizeof t->session);
     t->queue = queue ? queue : &no_words;
-    t->queue_len = queue_len;
+    t->queue_len = queue ? queue_len : 0;
     t->capture = capture ? capture : &no_words;
-    t->capture_len = capture_len;
+    t->capture_len = capture ? capture_len : 0;
     t->pool = pool ? pool : &no_samples;
-    t->pool_len = pool_len;
+    t->pool_len = pool ? pool_len : 0;
 }
 
-/* Opens a session on its first song, stopped at 0, gain 1.0. `length` in frames, from those in the samples to 2^40: past
- * its samples a song is silent. */
+/* Opens a session on its first song, stopped at 0, gain 1.0. `length` in frames, from those in the samples to 2^40:
+ * past its samples a song is silent. */
 static inline uint32_t tr_open(Threshreed *t, uint32_t rate, const float *samples, size_t samples_len,
                                uint32_t song_rate, uint64_t length)
 {
@@ -503,8 +504,9 @@ static inline uint32_t tr_open(Threshreed *t, uint32_t rate, const float *sample
     settings.queue = t->queue_len / THRESHREED_WORDS;
     settings.capture = t->capture_len / THRESHREED_WORDS;
     settings.pool = t->pool_len / 2;
-    ThreshreedLoaded r = threshreed_open(settings, t->queue, t->queue_len, t->capture, t->capture_len, t->pool,
-                                         t->pool_len, samples ? samples : t->pool, samples_len, song_rate, length);
+    ThreshreedLoaded r =
+        threshreed_open(settings, t->queue, t->queue_len, t->capture, t->capture_len, t->pool, t->pool_len,
+                        samples ? samples : t->pool, samples ? samples_len : 0, song_rate, length);
     t->session = r.session;
     return r.refusal;
 }
@@ -515,7 +517,7 @@ static inline uint32_t tr_load(Threshreed *t, const float *samples, size_t sampl
 {
     ThreshreedLoaded r =
         threshreed_load(t->session, t->queue, t->queue_len, t->capture, t->capture_len, t->pool, t->pool_len,
-                        samples ? samples : t->pool, samples_len, kind, length, rate);
+                        samples ? samples : t->pool, samples ? samples_len : 0, kind, length, rate);
     t->session = r.session;
     if (r.refusal == 0) {
         *handle = r.handle;
@@ -570,7 +572,7 @@ static inline uint32_t tr_transition(Threshreed *t, uint64_t frame, ThreshreedAt
 static inline uint32_t tr_replay(Threshreed *t, const uint64_t *list, size_t list_len, ThreshreedReport *report)
 {
     ThreshreedReplayed r = threshreed_replay(t->session, t->queue, t->queue_len, t->capture, t->capture_len,
-                                             list ? list : t->queue, list_len);
+                                             list ? list : t->queue, list ? list_len : 0);
     t->session = r.session;
     if (r.refusal == 0) {
         *report = r.report;
@@ -578,12 +580,12 @@ static inline uint32_t tr_replay(Threshreed *t, const uint64_t *list, size_t lis
     return r.refusal;
 }
 
-/* Makes a block of half as many frames as `out` has samples, each due command at its frame. A refused block leaves `out`
- * as it was. */
+/* Makes a block of half as many frames as `out` has samples, each due command at its frame. A refused block leaves
+ * `out` as it was. */
 static inline uint32_t tr_block(Threshreed *t, float *out, size_t out_len)
 {
     ThreshreedAnswered r = threshreed_block(t->session, t->queue, t->queue_len, t->capture, t->capture_len, t->pool,
-                                            t->pool_len, out ? out : t->pool, out_len);
+                                            t->pool_len, out ? out : t->pool, out ? out_len : 0);
     t->session = r.session;
     return r.refusal;
 }
@@ -601,7 +603,7 @@ static inline uint32_t tr_start_capture(Threshreed *t)
 static inline uint32_t tr_stop_capture(Threshreed *t, uint64_t *list, size_t list_len, size_t *copied)
 {
     ThreshreedStopped r = threshreed_stop_capture(t->session, t->queue, t->queue_len, t->capture, t->capture_len,
-                                                  list ? list : t->queue, list_len);
+                                                  list ? list : t->queue, list ? list_len : 0);
     t->session = r.session;
     if (r.refusal == 0) {
         *copied = r.copied;

@@ -1,8 +1,8 @@
 /* A tour of two minutes through three rooms, written as a WAV file: `tour FILE [BARS]`.
  *
  * It makes its own clips, in plain float steps that hosts/rust/examples/tour.rs takes in the same order, so that both
- * write the same samples (on a little-endian machine, without fused steps: -ffp-contract=off). The pool has room for two
- * rooms and the bell: the third room comes where the first one was.
+ * write the same samples (on a little-endian machine, without fused steps: -ffp-contract=off). The pool has room for
+ * two rooms and the bell: the third room comes where the first one was.
  */
 #include <stdio.h>
 #include <stdlib.h>
@@ -20,8 +20,8 @@ static Threshreed t;
 
 /* ---- the clips */
 
-/* Strikes a string at a pitch in hundredths of a Hertz, for each side at a level. What rings past the clip's end goes on
- * at its start, so that a loop has no seam. */
+/* Strikes a string at a pitch in hundredths of a Hertz, for each side at a level. What rings past the clip's end goes
+ * on at its start, so that a loop has no seam. */
 static void strike(float *clip, size_t frames, size_t at, size_t ring, uint64_t pitch, float left, float right)
 {
     uint32_t step = (uint32_t)((pitch << 32) / (100 * RATE));

@@ -23,8 +23,8 @@ static STORES: Mutex<Stores<64, 64, { 2 * ROOM + BAR }>> = Mutex::new(Stores::ne
 
 // ---- the clips
 
-/// Strikes a string at a pitch in hundredths of a Hertz, for each side at a level. What rings past the clip's end goes on
-/// at its start, so that a loop has no seam.
+/// Strikes a string at a pitch in hundredths of a Hertz, for each side at a level. What rings past the clip's end goes
+/// on at its start, so that a loop has no seam.
 fn strike(clip: &mut [f32], at: usize, ring: usize, pitch: u64, levels: [f32; 2]) {
     let step = ((pitch << 32) / (100 * RATE as u64)) as u32;
     let mut phase: u32 = 0;

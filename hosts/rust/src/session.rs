@@ -10,8 +10,8 @@ use crate::command::{At, ClockFrame, Command, Handle, LoopRange, Snapshot, SongF
 use crate::raw::{self, Metrics, Report};
 use crate::refusal::Refusal;
 
-/// A record of the queue, of the capture and of the lists for them has five words: clock frame, number, kind (1 to 10 in
-/// the order play, pause, stop, seek, transition, loop, clear loop, gain, swap, stinger), and two that the kind uses.
+/// Words of a record, in the queue, in the capture and in lists of them: clock frame, number, kind (1 to 10 in the order
+/// play, pause, stop, seek, transition, loop, clear loop, gain, swap, stinger), and two that the kind uses.
 pub const WORDS: usize = 5;
 
 const SONG: u32 = 1;
@@ -44,8 +44,8 @@ pub struct Stinger<'s> {
     pub rate: u32,
 }
 
-/// Stores of a fixed size, which a static can hold: so many queued commands (1 to 4,096), captured commands (0 to 4,096)
-/// and stereo frames of clips (1 to 33,554,432).
+/// Stores of a fixed size, which a static can hold: so many queued commands (1 to 4,096), captured commands (0 to
+/// 4,096) and stereo frames of clips (1 to 33,554,432).
 ///
 /// ```
 /// use threshreed::{Song, Stores};
@@ -116,8 +116,8 @@ pub struct Session<'a> {
 }
 
 impl<'a> Session<'a> {
-    /// Opens a session on its first song, stopped at 0, gain 1.0. The stores are [`WORDS`] words for each command of the
-    /// queue and of the capture, and two samples for each frame of the pool.
+    /// Opens a session on its first song, stopped at 0, gain 1.0. The stores are [`WORDS`] words for each command of
+    /// the queue and of the capture, and two samples for each frame of the pool.
     ///
     /// ```
     /// use threshreed::{Refusal, Session, Song, WORDS};
