@@ -1,11 +1,12 @@
 //! Any arguments: long runs of calls made by dice, by a host that keeps its session and by one that changes it by hand.
 
+mod common;
+
+use common::{ByHand, RATE};
 use threshreed::{
     At, ClockFrame, Command, Handle, LoopRange, Refusal, Session, Snapshot, Song, SongFrame, State,
-    Stinger, Stores, WORDS, raw,
+    Stinger, Stores, raw,
 };
-
-const RATE: u32 = 48_000;
 
 /// The same throws every time.
 struct Dice(u64);
@@ -160,60 +161,27 @@ fn sessions_changed_by_hand() {
     let mut dice = Dice(0x2545_F491_4F6C_DD1D);
     let mut refused = 0;
     for _ in 0..20_000 {
-        let mut queue = [0; 2 * WORDS];
-        let mut pool = [0.5; 8];
-        let settings = raw::Settings {
-            rate: RATE,
-            queue: 2,
-            capture: 0,
-            pool: 4,
-        };
-        let none: &[u64] = &[];
-        let opened = unsafe {
-            raw::threshreed_open(
-                settings,
-                queue.as_ptr(),
-                queue.len(),
-                none.as_ptr(),
-                0,
-                pool.as_mut_ptr(),
-                pool.len(),
-                [0.5; 4].as_ptr(),
-                4,
-                RATE,
-                2,
-            )
-        };
-        assert_eq!(opened.refusal, 0);
-        let mut session = opened.session;
+        let mut opened = ByHand::open();
         for _ in 0..1 + dice.below(3) {
             let place = dice.below(WHOLE as u64) as usize;
             let word = dice.count();
             // Every field is a number of 4 or 8 bytes, so that any word can lie anywhere.
-            unsafe { (&raw mut session).cast::<u64>().add(place).write(word) };
+            unsafe {
+                (&raw mut opened.session)
+                    .cast::<u64>()
+                    .add(place)
+                    .write(word)
+            };
         }
-        for word in &mut queue {
+        for word in &mut opened.queue {
             *word = dice.count();
         }
         let mut out = [9.0; 3 * 16];
-        let answered = unsafe {
-            raw::threshreed_block(
-                session,
-                queue.as_ptr(),
-                queue.len(),
-                none.as_ptr(),
-                0,
-                pool.as_ptr(),
-                pool.len(),
-                out[16..].as_mut_ptr(),
-                16,
-            )
-        };
+        let answered = opened.block(&mut out[16..32]);
         assert!(answered.refusal <= 4);
         refused += usize::from(answered.refusal == 1);
         assert_eq!(out[..16], [9.0; 16]);
         assert_eq!(out[32..], [9.0; 16]);
-        assert_eq!(pool[4..], [0.5; 4]);
     }
     assert!((1..20_000).contains(&refused));
 }

@@ -1,15 +1,14 @@
 //! Each refusal number at a call that gives it, and that a refused call changes nothing.
 
+mod common;
+
+use common::{ByHand, PAIR, RATE};
 use threshreed::Refusal::*;
 use threshreed::{
     At, Command, Metrics, Refusal, Report, Session, Snapshot, Song, SongFrame, State, Stinger,
     Stores, WORDS, raw,
 };
 
-const RATE: u32 = 48_000;
-const PAIR: [f32; 2] = [0.5, -0.5];
-
-/// A clip of one frame.
 fn song() -> Song<'static> {
     Song::new(&PAIR, RATE)
 }
@@ -189,46 +188,7 @@ fn captures_and_replays() {
     assert_eq!(session.replay(list.as_flattened()), Ok(expected));
 }
 
-/// A session by hand, for what no host with a `Session` comes to.
-struct ByHand {
-    session: raw::Session,
-    queue: [u64; 2 * WORDS],
-    pool: [f32; 4],
-}
-
 impl ByHand {
-    fn open() -> ByHand {
-        let (queue, mut pool) = ([0; 2 * WORDS], [0.0; 4]);
-        let settings = raw::Settings {
-            rate: RATE,
-            queue: 2,
-            capture: 0,
-            pool: 2,
-        };
-        let none: &[u64] = &[];
-        let opened = unsafe {
-            raw::threshreed_open(
-                settings,
-                queue.as_ptr(),
-                queue.len(),
-                none.as_ptr(),
-                0,
-                pool.as_mut_ptr(),
-                pool.len(),
-                PAIR.as_ptr(),
-                PAIR.len(),
-                RATE,
-                1,
-            )
-        };
-        assert_eq!(opened.refusal, 0);
-        ByHand {
-            session: opened.session,
-            queue,
-            pool,
-        }
-    }
-
     /// Opens a session and changes it.
     fn with(change: impl FnOnce(&mut raw::Session)) -> ByHand {
         let mut opened = ByHand::open();
@@ -236,21 +196,10 @@ impl ByHand {
         opened
     }
 
-    fn block(&self) -> u32 {
-        let (none, mut out): (&[u64], _) = (&[], [9.0; 2]);
-        let answered = unsafe {
-            raw::threshreed_block(
-                self.session,
-                self.queue.as_ptr(),
-                self.queue.len(),
-                none.as_ptr(),
-                0,
-                self.pool.as_ptr(),
-                self.pool.len(),
-                out.as_mut_ptr(),
-                out.len(),
-            )
-        };
+    /// A block of one frame.
+    fn frame(&self) -> u32 {
+        let mut out = [9.0; 2];
+        let answered = self.block(&mut out);
         if answered.refusal != 0 {
             assert_eq!(answered.session, self.session);
             assert_eq!(out, [9.0; 2]);
@@ -259,14 +208,13 @@ impl ByHand {
     }
 
     fn load(&mut self, kind: u32) -> u32 {
-        let none: &[u64] = &[];
         let loaded = unsafe {
             raw::threshreed_load(
                 self.session,
                 self.queue.as_ptr(),
                 self.queue.len(),
-                none.as_ptr(),
-                0,
+                self.capture.as_ptr(),
+                self.capture.len(),
                 self.pool.as_mut_ptr(),
                 self.pool.len(),
                 PAIR.as_ptr(),
@@ -280,7 +228,6 @@ impl ByHand {
     }
 
     fn submit(&mut self, kind: u32, at: u32) -> u32 {
-        let none: &mut [u64] = &mut [];
         let command = raw::Command {
             kind,
             gain: 1.0,
@@ -293,8 +240,8 @@ impl ByHand {
                 self.session,
                 self.queue.as_mut_ptr(),
                 self.queue.len(),
-                none.as_mut_ptr(),
-                0,
+                self.capture.as_mut_ptr(),
+                self.capture.len(),
                 command,
                 raw::At { kind: at, frame: 0 },
             )
@@ -303,7 +250,6 @@ impl ByHand {
     }
 
     fn apply(&self, state: u32, set: u32) -> u32 {
-        let none: &[u64] = &[];
         let snapshot = raw::Snapshot {
             position: 0,
             state,
@@ -319,8 +265,8 @@ impl ByHand {
                 self.session,
                 self.queue.as_ptr(),
                 self.queue.len(),
-                none.as_ptr(),
-                0,
+                self.capture.as_ptr(),
+                self.capture.len(),
                 snapshot,
             )
         };
@@ -331,8 +277,8 @@ impl ByHand {
 #[test]
 fn what_is_spent() {
     let end = 1 << 62;
-    assert_eq!(ByHand::with(|s| s.clock = end - 1).block(), 0);
-    assert_eq!(ByHand::with(|s| s.clock = end).block(), ClockSpent.number());
+    assert_eq!(ByHand::with(|s| s.clock = end - 1).frame(), 0);
+    assert_eq!(ByHand::with(|s| s.clock = end).frame(), ClockSpent.number());
     assert_eq!(ByHand::with(|s| s.last = u32::MAX - 1).load(2), 0);
     assert_eq!(
         ByHand::with(|s| s.last = u32::MAX).load(2),
@@ -356,7 +302,7 @@ fn a_session_that_is_not_well_formed() {
         |s| s.queued = usize::MAX,
     ];
     for change in changes {
-        assert_eq!(ByHand::with(change).block(), NotWellFormed.number());
+        assert_eq!(ByHand::with(change).frame(), NotWellFormed.number());
     }
 }
 
