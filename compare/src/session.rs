@@ -26,6 +26,11 @@ impl Song {
     pub fn new(rate: u32, frames: &[Pair], length: u64) -> Song {
         Song(Arc::new(Program::new(prepared(rate, frames), length)))
     }
+
+    /// Whether this is the song that tono's command names.
+    pub fn is(&self, program: &Arc<Program>) -> bool {
+        Arc::ptr_eq(&self.0, program)
+    }
 }
 
 /// A stinger's clip.

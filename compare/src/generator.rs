@@ -1,0 +1,566 @@
+//! Random sessions inside the domain of the comparison, each decided by its seed and its size, leaning
+//! towards short songs, loops, crowded frames and crowded swaps.
+
+use threshreed::raw::{At, Command, Handle};
+
+use crate::both::{Both, Difference};
+use crate::dice::Dice;
+use crate::domain::Walk;
+use crate::ours::{Row, handle_word};
+use crate::reached::{Moment, Reached};
+use crate::script::{CAPTURE, Call, Material, POOL, QUEUE, SONG, STINGER, at, kind};
+
+/// How long a session is.
+#[derive(Clone, Copy)]
+pub enum Size {
+    /// For the fixed list.
+    Short,
+    Long,
+}
+
+/// What a session is mostly about.
+#[derive(Clone, Copy, PartialEq)]
+enum Mood {
+    Anything,
+    Loops,
+    Swaps,
+    Bursts,
+    Rides,
+    FullQueue,
+}
+
+/// A session that was played to its end without a difference.
+pub struct Played {
+    pub reached: Reached,
+    /// Its lines for the fixed list, if they were wanted.
+    pub lines: String,
+}
+
+/// Plays the session of this seed on both sides.
+pub fn play(seed: u64, size: Size, lines: bool) -> Result<Played, Difference> {
+    let mut dice = Dice::new(seed);
+    let song = song(&mut dice, 1);
+    let mut player = Player {
+        both: Both::open(seed, song, lines)?,
+        mood: mood(&mut dice),
+        dice,
+        size,
+        loads: 1,
+        retired: Vec::new(),
+        last_frame: 0,
+        snapped: false,
+        reached: Reached::default(),
+    };
+    player.run()?;
+    Ok(Played {
+        reached: player.reached,
+        lines: player.both.into_lines(),
+    })
+}
+
+struct Player {
+    both: Both,
+    dice: Dice,
+    mood: Mood,
+    size: Size,
+    /// The clips loaded so far. Each clip has a seed of its own.
+    loads: u32,
+    /// The starts of the clips retired so far.
+    retired: Vec<u64>,
+    /// The clock frame named last.
+    last_frame: u64,
+    /// A snapshot was taken.
+    snapped: bool,
+    reached: Reached,
+}
+
+#[derive(Clone, Copy)]
+enum Step {
+    Submit,
+    Burst,
+    Transition,
+    Block,
+    Load,
+    Retire,
+    StartCapture,
+    StopCapture,
+    Replay,
+    Snapshot,
+    Apply,
+}
+
+impl Player {
+    fn run(&mut self) -> Result<(), Difference> {
+        let (calls, frames) = match self.size {
+            Size::Short => (self.dice.from(8, 24), 2_000),
+            Size::Long => (self.dice.from(20, 100), 7_000),
+        };
+        if self.mood == Mood::FullQueue {
+            self.fill_queue()?;
+        }
+        for _ in 0..calls {
+            if self.both.ours.session.clock > frames {
+                break;
+            }
+            if !self.step()? {
+                break;
+            }
+        }
+        Ok(())
+    }
+
+    /// One step. False if the session cannot go on inside the domain.
+    fn step(&mut self) -> Result<bool, Difference> {
+        let burst = if self.mood == Mood::Bursts { 6 } else { 1 };
+        let step = self.dice.weighed(&[
+            (Step::Submit, 44),
+            (Step::Burst, burst),
+            (Step::Transition, 6),
+            (Step::Block, 36),
+            (Step::Load, 6),
+            (Step::Retire, 5),
+            (Step::StartCapture, 3),
+            (Step::StopCapture, 3),
+            (Step::Replay, 4),
+            (Step::Snapshot, 3),
+            (Step::Apply, 3),
+        ]);
+        match step {
+            Step::Submit => {
+                let command = self.command();
+                let at = self.time();
+                self.submit(command, at)?;
+            }
+            Step::Burst => self.burst()?,
+            Step::Transition => {
+                let frame = self.place().min(4_000);
+                let at = self.time();
+                if self.capture_has_room() {
+                    self.call(Call::Transition(frame, at))?;
+                }
+            }
+            Step::Block => {
+                let frames = self.block_frames();
+                return self.block(frames);
+            }
+            Step::Load => self.load()?,
+            Step::Retire => self.retire()?,
+            Step::StartCapture => self.call(Call::StartCapture)?,
+            Step::StopCapture => self.call(Call::StopCapture)?,
+            Step::Replay => self.replay()?,
+            Step::Snapshot => {
+                self.call(Call::Snapshot)?;
+                self.snapped = true;
+            }
+            Step::Apply => {
+                if self.snapped {
+                    self.call(Call::Apply)?;
+                }
+            }
+        }
+        Ok(true)
+    }
+
+    /// Plays a call on both sides and looks at what it reached.
+    fn call(&mut self, call: Call) -> Result<(), Difference> {
+        let before = Moment::of(&self.both.ours);
+        let answer = self.both.play(&call)?;
+        let after = Moment::of(&self.both.ours);
+        self.reached
+            .see(&call, &answer, &before, &after, &self.retired);
+        Ok(())
+    }
+
+    /// A block, as long as the domain allows. Where it allows none, the song is stopped first, and where
+    /// it then still allows none, the session ends.
+    fn block(&mut self, frames: usize) -> Result<bool, Difference> {
+        let mut walk = Walk::ahead(&self.both.ours, frames);
+        if frames > 0 && walk.frames == 0 {
+            let stop = self.plain(kind::STOP);
+            self.submit(stop, NOW)?;
+            walk = Walk::ahead(&self.both.ours, frames);
+            if walk.frames == 0 {
+                return Ok(false);
+            }
+        }
+        self.call(Call::Block(walk.frames))?;
+        walk.check(&self.both.ours.session);
+        Ok(true)
+    }
+
+    fn block_frames(&mut self) -> usize {
+        let session = &self.both.ours.session;
+        let clock = session.clock;
+        let to_first = self
+            .both
+            .ours
+            .first_due()
+            .map(|at| at.saturating_sub(clock));
+        match self.dice.below(20) {
+            0 => 0,
+            1..=3 => 1,
+            4 => 7,
+            5..=6 => 64,
+            7..=8 => 512,
+            9 if self.dice.one_in(3) => 4_096,
+            // Up to the next command, or a frame beside it.
+            10..=14 => match to_first {
+                Some(frames) if frames < 2_000 => {
+                    (frames + self.dice.below(3)).saturating_sub(1) as usize
+                }
+                _ => 64,
+            },
+            _ => self.dice.from(1, 300) as usize,
+        }
+    }
+
+    // ---- commands
+
+    fn submit(&mut self, command: Command, at: At) -> Result<(), Difference> {
+        let stinger = command.kind == kind::STINGER;
+        if stinger && self.stingers_left() == 0 || !self.capture_has_room() {
+            return Ok(());
+        }
+        self.call(Call::Submit(command, at))
+    }
+
+    fn command(&mut self) -> Command {
+        let weights = match self.mood {
+            Mood::Anything | Mood::FullQueue => [6, 3, 2, 4, 4, 2, 4, 3, 4],
+            Mood::Loops => [6, 2, 1, 10, 10, 2, 1, 1, 1],
+            Mood::Swaps => [3, 4, 1, 3, 2, 1, 2, 12, 1],
+            Mood::Bursts => [3, 1, 1, 1, 1, 1, 2, 1, 16],
+            Mood::Rides => [4, 1, 1, 1, 1, 1, 16, 1, 1],
+        };
+        const KINDS: [u32; 9] = [
+            kind::PLAY,
+            kind::PAUSE,
+            kind::STOP,
+            kind::SEEK,
+            kind::LOOP,
+            kind::CLEAR_LOOP,
+            kind::GAIN,
+            kind::SWAP,
+            kind::STINGER,
+        ];
+        let kinds: Vec<_> = KINDS.into_iter().zip(weights).collect();
+        let kind = self.dice.weighed(&kinds);
+        self.of_kind(kind)
+    }
+
+    fn of_kind(&mut self, kind: u32) -> Command {
+        let plain = self.plain(kind);
+        match kind {
+            kind::SEEK => Command {
+                frame: self.place(),
+                ..plain
+            },
+            kind::LOOP => self.looped(plain),
+            kind::GAIN => Command {
+                gain: self.gain(),
+                ..plain
+            },
+            kind::SWAP => match self.clip_of(SONG) {
+                Some(clip) => Command { clip, ..plain },
+                None => self.plain(kind::PLAY),
+            },
+            kind::STINGER => match self.clip_of(STINGER) {
+                Some(clip) => Command {
+                    clip,
+                    gain: self.gain(),
+                    ..plain
+                },
+                None => self.plain(kind::PLAY),
+            },
+            _ => plain,
+        }
+    }
+
+    /// A command whose kind uses no other field.
+    fn plain(&self, kind: u32) -> Command {
+        Command {
+            kind,
+            gain: 0.0,
+            clip: Handle { slot: 0, serial: 0 },
+            frame: 0,
+            end: 0,
+        }
+    }
+
+    /// As many stingers as can wait, all for one frame.
+    fn burst(&mut self) -> Result<(), Difference> {
+        let at = self.time();
+        for _ in 0..self.stingers_left() {
+            let command = self.of_kind(kind::STINGER);
+            self.submit(command, at)?;
+        }
+        Ok(())
+    }
+
+    fn looped(&mut self, plain: Command) -> Command {
+        let clip = *self.both.ours.clip(self.both.ours.session.song);
+        let start = self.dice.below(clip.frames);
+        let span = self.dice.pick(&[1, 2, 3, 10, 50, 200, 1_000]);
+        let end = match self.dice.below(8) {
+            0 => clip.extent.min(1 << 31),
+            1 => clip.frames,
+            // A loop that does not fit.
+            2 => self
+                .dice
+                .pick(&[start, start.saturating_sub(1), clip.extent.min(1 << 31) + 1]),
+            _ => start + self.dice.from(1, span),
+        };
+        Command {
+            frame: start,
+            end,
+            ..plain
+        }
+    }
+
+    /// A place to seek to: in the clip, at its end, beside the loop's end, or past all of it.
+    fn place(&mut self) -> u64 {
+        let session = &self.both.ours.session;
+        let clip = *self.both.ours.clip(session.song);
+        let loop_end = session.looped.end;
+        match self.dice.below(16) {
+            0..=5 if session.looped.set == 1 => (loop_end + self.dice.below(12)).saturating_sub(4),
+            0..=9 => self.dice.below(clip.frames),
+            10..=12 => clip.frames - self.dice.below(clip.frames.min(5)),
+            13 => clip.extent.min(1 << 40),
+            14 => clip.extent + self.dice.below(100),
+            _ if self.dice.one_in(8) => (1 << 51) - 1 - self.dice.below(1_000),
+            _ => 0,
+        }
+    }
+
+    /// Never -0.0.
+    fn gain(&mut self) -> f32 {
+        match self.dice.below(8) {
+            0 => 0.0,
+            1 => 1.0,
+            2 => -0.25,
+            3 => self.dice.pick(&[2.0, 2.5, 16.0]),
+            _ => self.dice.below(2_000) as f32 / 999.0,
+        }
+    }
+
+    fn time(&mut self) -> At {
+        let session = &self.both.ours.session;
+        let (clock, position, looped) = (session.clock, session.position, session.looped);
+        let named = match self.dice.below(20) {
+            0..=4 => return NOW,
+            5..=7 => self.last_frame,
+            8..=9 => clock + self.dice.pick(&[0, 1, 7, 64, 512]),
+            10..=13 => clock + self.dice.from(1, 300),
+            14 => clock + self.dice.from(1, 1_500),
+            15 => clock.saturating_sub(self.dice.below(4)),
+            16 if self.dice.one_in(4) => self.dice.pick(&[1 << 40, 1 << 62, u64::MAX]),
+            17 if looped.set == 1 => {
+                return At {
+                    kind: at::SONG,
+                    frame: looped.start + self.dice.below(looped.end - looped.start),
+                };
+            }
+            18 if self.dice.one_in(4) => {
+                return At {
+                    kind: at::SONG,
+                    frame: (1 << 51) - 1 - self.dice.below(1_000),
+                };
+            }
+            _ => {
+                return At {
+                    kind: at::SONG,
+                    frame: (position + self.dice.below(200)).saturating_sub(80),
+                };
+            }
+        };
+        self.last_frame = named;
+        At {
+            kind: at::FRAME,
+            frame: named,
+        }
+    }
+
+    // ---- what would be refused
+
+    /// How many stingers may still be submitted: 16 less those that wait and those that sound.
+    fn stingers_left(&self) -> usize {
+        let ours = &self.both.ours;
+        16 - stingers(ours.waiting()) - ours.session.voices.count
+    }
+
+    fn capture_has_room(&self) -> bool {
+        self.both.ours.captured().len() < CAPTURE
+    }
+
+    /// A loaded clip of this kind, if there is one.
+    fn clip_of(&mut self, wanted: u32) -> Option<Handle> {
+        let clips: Vec<Handle> = self
+            .loaded()
+            .filter(|handle| self.both.ours.clip(*handle).kind == wanted)
+            .collect();
+        (!clips.is_empty()).then(|| self.dice.pick(&clips))
+    }
+
+    fn loaded(&self) -> impl Iterator<Item = Handle> {
+        let session = &self.both.ours.session;
+        let used = (0..32).filter(|slot| session.used >> slot & 1 == 1);
+        used.map(|slot| Handle {
+            slot,
+            serial: session.clips[slot as usize].serial,
+        })
+    }
+
+    /// Whether a clip of so many frames finds room in the pool.
+    fn has_room(&self, frames: u64) -> bool {
+        let clips: Vec<_> = self.loaded().map(|x| *self.both.ours.clip(x)).collect();
+        let ends = clips.iter().map(|clip| clip.start + clip.frames);
+        let mut starts = std::iter::once(0).chain(ends);
+        starts.any(|start| {
+            let apart = |x: &threshreed::raw::Clip| {
+                start + frames <= x.start || x.start + x.frames <= start
+            };
+            start + frames <= POOL && clips.iter().all(apart)
+        })
+    }
+
+    fn load(&mut self) -> Result<(), Difference> {
+        self.loads += 1;
+        let material = match self.dice.below(3) {
+            0 => song(&mut self.dice, self.loads),
+            _ => stinger(&mut self.dice, self.loads),
+        };
+        if self.loaded().count() == 32 || !self.has_room(material.frames) {
+            return Ok(());
+        }
+        self.call(Call::Load(material))
+    }
+
+    /// Retires a clip that nothing holds.
+    fn retire(&mut self) -> Result<(), Difference> {
+        let ours = &self.both.ours;
+        let session = &ours.session;
+        let voices = &session.voices.table[..session.voices.count];
+        let held = |handle: &Handle| {
+            let named = |row: &Row| {
+                let claims = [kind::SWAP, kind::STINGER].contains(&(row[2] as u32));
+                claims && row[3] == handle_word(*handle)
+            };
+            session.song == *handle
+                || session.tail.sounding == 1 && session.tail.song == *handle
+                || voices.iter().any(|voice| voice.handle == *handle)
+                || ours.waiting().any(named)
+                || ours.captured().iter().any(named)
+        };
+        let free: Vec<Handle> = self.loaded().filter(|handle| !held(handle)).collect();
+        if free.is_empty() {
+            return Ok(());
+        }
+        let clip = self.dice.pick(&free);
+        self.retired.push(self.both.ours.clip(clip).start);
+        self.call(Call::Retire(clip))
+    }
+
+    /// Replays the last list, if every clip in it is still loaded and its stingers may all wait.
+    fn replay(&mut self) -> Result<(), Difference> {
+        let (list, _) = self.both.ours.list.as_chunks::<5>();
+        let live: Vec<u64> = self.loaded().map(handle_word).collect();
+        let stale = |row: &Row| {
+            let claims = [kind::SWAP, kind::STINGER].contains(&(row[2] as u32));
+            claims && !live.contains(&row[3])
+        };
+        if list.iter().any(stale) || stingers(list.iter()) > self.stingers_left() {
+            return Ok(());
+        }
+        self.call(Call::Replay)
+    }
+
+    /// Captures a few commands and replays them until the queue is full, and once more.
+    fn fill_queue(&mut self) -> Result<(), Difference> {
+        let few = match self.size {
+            Size::Short => 64,
+            Size::Long => self.dice.from(64, 300),
+        };
+        let frame = self.dice.pick(&[0, 100, 700, 1 << 40]);
+        self.call(Call::StartCapture)?;
+        for _ in 0..few {
+            let kind = self.dice.pick(&[
+                kind::PLAY,
+                kind::PAUSE,
+                kind::STOP,
+                kind::SEEK,
+                kind::LOOP,
+                kind::CLEAR_LOOP,
+                kind::GAIN,
+            ]);
+            let command = self.of_kind(kind);
+            let at = At {
+                kind: at::FRAME,
+                frame: frame + self.dice.below(4),
+            };
+            self.submit(command, at)?;
+        }
+        self.call(Call::StopCapture)?;
+        while self.both.ours.session.queued < QUEUE {
+            self.call(Call::Replay)?;
+        }
+        self.call(Call::Replay)
+    }
+}
+
+/// At once.
+const NOW: At = At {
+    kind: at::IMMEDIATE,
+    frame: 0,
+};
+
+/// How many of these records are stingers.
+fn stingers<'a>(rows: impl Iterator<Item = &'a Row>) -> usize {
+    rows.filter(|row| row[2] == u64::from(kind::STINGER))
+        .count()
+}
+
+fn mood(dice: &mut Dice) -> Mood {
+    dice.weighed(&[
+        (Mood::Anything, 24),
+        (Mood::Loops, 10),
+        (Mood::Swaps, 10),
+        (Mood::Bursts, 10),
+        (Mood::Rides, 9),
+        (Mood::FullQueue, 1),
+    ])
+}
+
+/// A short song, whose length may exceed its frames.
+fn song(dice: &mut Dice, load: u32) -> Material {
+    let frames = match dice.below(4) {
+        0 => dice.from(64, 200),
+        1 | 2 => dice.from(200, 1_200),
+        _ => dice.from(1_200, 3_000),
+    };
+    let extent = match dice.below(8) {
+        0 => frames + dice.from(1, 300),
+        1 if dice.one_in(4) => 1 << 40,
+        _ => frames,
+    };
+    Material {
+        kind: SONG,
+        frames,
+        extent,
+        seed: seed(dice, load),
+    }
+}
+
+fn stinger(dice: &mut Dice, load: u32) -> Material {
+    Material {
+        kind: STINGER,
+        frames: dice.pick(&[1, 2, 30, 95, 96, 97, 200, 400, 900]),
+        extent: 0,
+        seed: seed(dice, load),
+    }
+}
+
+/// A clip's seed, which no other clip of the session has.
+fn seed(dice: &mut Dice, load: u32) -> u32 {
+    dice.below(1 << 21) as u32 * 1_024 + load
+}

@@ -1,0 +1,318 @@
+//! Our side: the proved library, through its static library, with the stores that a host lends it.
+
+use threshreed::raw::{self, Command, Handle};
+
+use crate::clip;
+use crate::script::{
+    Answer, CAPTURE, Call, Material, POOL, QUEUE, RATE, Standing, snapshot_numbers,
+};
+
+/// What the pool holds where no clip lies: heard at once, if it is ever read.
+const UNLOADED: f32 = 7.0;
+
+/// A session and its stores. Between calls all of it may be read.
+pub struct Ours {
+    pub session: raw::Session,
+    pub queue: Vec<u64>,
+    pub capture: Vec<u64>,
+    pub pool: Vec<f32>,
+    /// The records that the last stop of capture gave.
+    pub list: Vec<u64>,
+    snapshot: Option<raw::Snapshot>,
+}
+
+/// A record as it lies in a store: frame, number, kind, and two words that the kind reads.
+pub type Row = [u64; 5];
+
+/// A handle in one word of a record.
+pub fn handle_word(clip: Handle) -> u64 {
+    u64::from(clip.slot) << 32 | u64::from(clip.serial)
+}
+
+impl Ours {
+    pub fn open(song: Material) -> (Ours, Answer) {
+        let settings = raw::Settings {
+            rate: RATE,
+            queue: QUEUE,
+            capture: CAPTURE,
+            pool: POOL,
+        };
+        let queue = vec![0; QUEUE * 5];
+        let capture = vec![0; CAPTURE * 5];
+        let mut pool = vec![UNLOADED; POOL as usize * 2];
+        let samples = clip::samples(song.seed, song.frames);
+        let opened = unsafe {
+            raw::threshreed_open(
+                settings,
+                queue.as_ptr(),
+                queue.len(),
+                capture.as_ptr(),
+                capture.len(),
+                pool.as_mut_ptr(),
+                pool.len(),
+                samples.as_ptr(),
+                samples.len(),
+                RATE,
+                song.extent,
+            )
+        };
+        let ours = Ours {
+            session: opened.session,
+            queue,
+            capture,
+            pool,
+            list: Vec::new(),
+            snapshot: None,
+        };
+        (ours, answer(opened.refusal, Answer::Loaded(opened.handle)))
+    }
+
+    pub fn play(&mut self, call: &Call) -> Answer {
+        match call {
+            Call::Open(_) => panic!("the session is open"),
+            Call::Load(material) => self.load(*material),
+            Call::Retire(clip) => self.retire(*clip),
+            Call::Submit(command, at) => self.submit(*command, *at),
+            Call::Transition(frame, at) => self.transition(*frame, *at),
+            Call::Block(frames) => self.block(*frames),
+            Call::StartCapture => self.start_capture(),
+            Call::StopCapture => self.stop_capture(),
+            Call::Replay => self.replay(),
+            Call::Snapshot => self.snapshot(),
+            Call::Apply => self.apply(),
+        }
+    }
+
+    fn load(&mut self, material: Material) -> Answer {
+        let samples = clip::samples(material.seed, material.frames);
+        let loaded = unsafe {
+            raw::threshreed_load(
+                self.session,
+                self.queue.as_ptr(),
+                self.queue.len(),
+                self.capture.as_ptr(),
+                self.capture.len(),
+                self.pool.as_mut_ptr(),
+                self.pool.len(),
+                samples.as_ptr(),
+                samples.len(),
+                material.kind,
+                material.extent,
+                RATE,
+            )
+        };
+        self.session = loaded.session;
+        answer(loaded.refusal, Answer::Loaded(loaded.handle))
+    }
+
+    fn retire(&mut self, clip: Handle) -> Answer {
+        let retired = unsafe {
+            raw::threshreed_retire(
+                self.session,
+                self.queue.as_ptr(),
+                self.queue.len(),
+                self.capture.as_ptr(),
+                self.capture.len(),
+                clip,
+            )
+        };
+        self.session = retired.session;
+        answer(retired.refusal, Answer::Done)
+    }
+
+    fn submit(&mut self, command: Command, at: raw::At) -> Answer {
+        let submitted = unsafe {
+            raw::threshreed_submit(
+                self.session,
+                self.queue.as_mut_ptr(),
+                self.queue.len(),
+                self.capture.as_mut_ptr(),
+                self.capture.len(),
+                command,
+                at,
+            )
+        };
+        self.session = submitted.session;
+        answer(submitted.refusal, Answer::Queued(submitted.number))
+    }
+
+    fn transition(&mut self, frame: u64, at: raw::At) -> Answer {
+        let submitted = unsafe {
+            raw::threshreed_transition(
+                self.session,
+                self.queue.as_mut_ptr(),
+                self.queue.len(),
+                self.capture.as_mut_ptr(),
+                self.capture.len(),
+                frame,
+                at,
+            )
+        };
+        self.session = submitted.session;
+        answer(submitted.refusal, Answer::Queued(submitted.number))
+    }
+
+    fn block(&mut self, frames: usize) -> Answer {
+        let mut out = vec![f32::NAN; frames * 2];
+        let made = unsafe {
+            raw::threshreed_block(
+                self.session,
+                self.queue.as_ptr(),
+                self.queue.len(),
+                self.capture.as_ptr(),
+                self.capture.len(),
+                self.pool.as_ptr(),
+                self.pool.len(),
+                out.as_mut_ptr(),
+                out.len(),
+            )
+        };
+        self.session = made.session;
+        let bits = out.iter().map(|sample| sample.to_bits()).collect();
+        answer(made.refusal, Answer::Samples(bits))
+    }
+
+    fn start_capture(&mut self) -> Answer {
+        let started = unsafe {
+            raw::threshreed_start_capture(
+                self.session,
+                self.queue.as_ptr(),
+                self.queue.len(),
+                self.capture.as_ptr(),
+                self.capture.len(),
+            )
+        };
+        self.session = started.session;
+        answer(started.refusal, Answer::Done)
+    }
+
+    fn stop_capture(&mut self) -> Answer {
+        let mut list = vec![0; CAPTURE * 5];
+        let stopped = unsafe {
+            raw::threshreed_stop_capture(
+                self.session,
+                self.queue.as_ptr(),
+                self.queue.len(),
+                self.capture.as_ptr(),
+                self.capture.len(),
+                list.as_mut_ptr(),
+                list.len(),
+            )
+        };
+        self.session = stopped.session;
+        list.truncate(stopped.copied * 5);
+        let records = list.as_chunks().0.to_vec();
+        self.list = list;
+        answer(stopped.refusal, Answer::Records(records))
+    }
+
+    fn replay(&mut self) -> Answer {
+        let replayed = unsafe {
+            raw::threshreed_replay(
+                self.session,
+                self.queue.as_mut_ptr(),
+                self.queue.len(),
+                self.capture.as_ptr(),
+                self.capture.len(),
+                self.list.as_ptr(),
+                self.list.len(),
+            )
+        };
+        self.session = replayed.session;
+        answer(replayed.refusal, Answer::Replayed(replayed.report))
+    }
+
+    fn snapshot(&mut self) -> Answer {
+        let snapped = unsafe {
+            raw::threshreed_snapshot(
+                self.session,
+                self.queue.as_ptr(),
+                self.queue.len(),
+                self.capture.as_ptr(),
+                self.capture.len(),
+            )
+        };
+        self.session = snapped.session;
+        let taken = snapped.snapshot;
+        self.snapshot = Some(taken);
+        let numbers = snapshot_numbers(taken.position, taken.state, taken.gain, taken.looped);
+        answer(snapped.refusal, numbers)
+    }
+
+    fn apply(&mut self) -> Answer {
+        let applied = unsafe {
+            raw::threshreed_apply_snapshot(
+                self.session,
+                self.queue.as_ptr(),
+                self.queue.len(),
+                self.capture.as_ptr(),
+                self.capture.len(),
+                self.snapshot.expect("a snapshot was taken"),
+            )
+        };
+        self.session = applied.session;
+        answer(applied.refusal, Answer::Done)
+    }
+
+    /// Read off the session, its counts by the metrics call.
+    pub fn standing(&self) -> Standing {
+        let metered = unsafe {
+            raw::threshreed_metrics(
+                self.session,
+                self.queue.as_ptr(),
+                self.queue.len(),
+                self.capture.as_ptr(),
+                self.capture.len(),
+            )
+        };
+        assert_eq!(metered.refusal, 0, "the metrics are refused");
+        let metrics = metered.metrics;
+        Standing {
+            position: self.session.position,
+            state: self.session.state,
+            looped: self.session.looped,
+            target: self.session.master.target.to_bits(),
+            clock: self.session.clock,
+            rendered: metrics.rendered,
+            queued: self.session.queued,
+            executed: metrics.executed,
+            dropped: metrics.dropped,
+            deepest: metrics.deepest,
+            swaps: metrics.swaps,
+            fired: metrics.fired,
+        }
+    }
+
+    /// The queued records, the first due first. In the store it lies last.
+    pub fn waiting(&self) -> impl Iterator<Item = &Row> {
+        let live = self.queue.as_chunks().0[..self.session.queued].iter();
+        live.rev()
+    }
+
+    /// The records of the running capture.
+    pub fn captured(&self) -> &[Row] {
+        let live = match self.session.capturing {
+            1 => self.session.captured,
+            _ => 0,
+        };
+        &self.capture.as_chunks().0[..live]
+    }
+
+    /// The frame of the first queued record.
+    pub fn first_due(&self) -> Option<u64> {
+        self.waiting().next().map(|row| row[0])
+    }
+
+    /// The clip of a live handle.
+    pub fn clip(&self, handle: Handle) -> &raw::Clip {
+        &self.session.clips[handle.slot as usize]
+    }
+}
+
+/// What a call answers, if it is not refused.
+fn answer(refusal: u32, given: Answer) -> Answer {
+    match refusal {
+        0 => given,
+        _ => Answer::Refused(refusal),
+    }
+}
