@@ -40,9 +40,9 @@ impl Walk {
     pub fn ahead(ours: &Ours, wanted: usize) -> Walk {
         let mut playhead = Playhead::of(&ours.session);
         let mut end = playhead;
-        let mut clock = ours.session.clock;
         let mut waiting = ours.waiting().peekable();
         for made in 0..=wanted {
+            let clock = ours.session.clock + made as u64;
             let mut due = 0;
             while let Some(row) = waiting.next_if(|row| row[0] <= clock) {
                 playhead.execute(ours, row);
@@ -58,7 +58,6 @@ impl Walk {
             }
             playhead = frame.expect("the frame stays in the domain");
             end = playhead;
-            clock += 1;
         }
         unreachable!("the last round returns")
     }

@@ -8,7 +8,7 @@ use crate::dice::Dice;
 use crate::domain::Walk;
 use crate::ours::{Row, handle_word};
 use crate::reached::{Moment, Reached};
-use crate::script::{CAPTURE, Call, Material, POOL, QUEUE, SONG, STINGER, at, kind};
+use crate::script::{CAPTURE, Call, Material, POOL, QUEUE, SONG, STINGER, at, kind, state};
 
 /// How long a session is.
 #[derive(Clone, Copy)]
@@ -87,16 +87,23 @@ enum Step {
     Replay,
     Snapshot,
     Apply,
+    PastLoop,
 }
 
 impl Player {
     fn run(&mut self) -> Result<(), Difference> {
         let (calls, frames) = match self.size {
-            Size::Short => (self.dice.from(8, 24), 2_000),
-            Size::Long => (self.dice.from(20, 100), 7_000),
+            Size::Short => (self.dice.from(10, 40), 3_000),
+            Size::Long => (self.dice.from(20, 200), 12_000),
         };
+        for _ in 0..self.dice.from(1, 4) {
+            self.load()?;
+        }
         if self.mood == Mood::FullQueue {
             self.fill_queue()?;
+        }
+        if !self.dice.one_in(4) {
+            self.submit(plain(kind::PLAY), NOW)?;
         }
         for _ in 0..calls {
             if self.both.ours.session.clock > frames {
@@ -124,6 +131,7 @@ impl Player {
             (Step::Replay, 4),
             (Step::Snapshot, 3),
             (Step::Apply, 3),
+            (Step::PastLoop, 4),
         ]);
         match step {
             Step::Submit => {
@@ -157,6 +165,7 @@ impl Player {
                     self.call(Call::Apply)?;
                 }
             }
+            Step::PastLoop => return self.past_loop(),
         }
         Ok(true)
     }
@@ -176,7 +185,7 @@ impl Player {
     fn block(&mut self, frames: usize) -> Result<bool, Difference> {
         let mut walk = Walk::ahead(&self.both.ours, frames);
         if frames > 0 && walk.frames == 0 {
-            let stop = self.plain(kind::STOP);
+            let stop = plain(kind::STOP);
             self.submit(stop, NOW)?;
             walk = Walk::ahead(&self.both.ours, frames);
             if walk.frames == 0 {
@@ -214,6 +223,22 @@ impl Player {
         }
     }
 
+    /// Ends a block with a seek past the loop's end, so that the next one begins there.
+    fn past_loop(&mut self) -> Result<bool, Difference> {
+        let session = &self.both.ours.session;
+        let (looped, clock) = (session.looped, session.clock);
+        if looped.set == 0 || session.state != state::PLAYING {
+            return Ok(true);
+        }
+        let frames = self.dice.from(1, 64);
+        let seek = Command {
+            frame: looped.end + self.dice.below(200),
+            ..plain(kind::SEEK)
+        };
+        self.submit(seek, at_frame(clock + frames))?;
+        self.block(frames as usize)
+    }
+
     // ---- commands
 
     fn submit(&mut self, command: Command, at: At) -> Result<(), Difference> {
@@ -249,41 +274,30 @@ impl Player {
     }
 
     fn of_kind(&mut self, kind: u32) -> Command {
-        let plain = self.plain(kind);
+        let bare = plain(kind);
         match kind {
             kind::SEEK => Command {
                 frame: self.place(),
-                ..plain
+                ..bare
             },
-            kind::LOOP => self.looped(plain),
+            kind::LOOP => self.looped(bare),
             kind::GAIN => Command {
                 gain: self.gain(),
-                ..plain
+                ..bare
             },
             kind::SWAP => match self.clip_of(SONG) {
-                Some(clip) => Command { clip, ..plain },
-                None => self.plain(kind::PLAY),
+                Some(clip) => Command { clip, ..bare },
+                None => plain(kind::PLAY),
             },
             kind::STINGER => match self.clip_of(STINGER) {
                 Some(clip) => Command {
                     clip,
                     gain: self.gain(),
-                    ..plain
+                    ..bare
                 },
-                None => self.plain(kind::PLAY),
+                None => plain(kind::PLAY),
             },
-            _ => plain,
-        }
-    }
-
-    /// A command whose kind uses no other field.
-    fn plain(&self, kind: u32) -> Command {
-        Command {
-            kind,
-            gain: 0.0,
-            clip: Handle { slot: 0, serial: 0 },
-            frame: 0,
-            end: 0,
+            _ => bare,
         }
     }
 
@@ -292,12 +306,14 @@ impl Player {
         let at = self.time();
         for _ in 0..self.stingers_left() {
             let command = self.of_kind(kind::STINGER);
-            self.submit(command, at)?;
+            if command.kind == kind::STINGER {
+                self.submit(command, at)?;
+            }
         }
         Ok(())
     }
 
-    fn looped(&mut self, plain: Command) -> Command {
+    fn looped(&mut self, bare: Command) -> Command {
         let clip = *self.both.ours.clip(self.both.ours.session.song);
         let start = self.dice.below(clip.frames);
         let span = self.dice.pick(&[1, 2, 3, 10, 50, 200, 1_000]);
@@ -313,7 +329,7 @@ impl Player {
         Command {
             frame: start,
             end,
-            ..plain
+            ..bare
         }
     }
 
@@ -356,29 +372,19 @@ impl Player {
             15 => clock.saturating_sub(self.dice.below(4)),
             16 if self.dice.one_in(4) => self.dice.pick(&[1 << 40, 1 << 62, u64::MAX]),
             17 if looped.set == 1 => {
-                return At {
-                    kind: at::SONG,
-                    frame: looped.start + self.dice.below(looped.end - looped.start),
-                };
+                let span = looped.end - looped.start;
+                return at_song(looped.start + self.dice.below(span));
             }
             18 if self.dice.one_in(4) => {
-                return At {
-                    kind: at::SONG,
-                    frame: (1 << 51) - 1 - self.dice.below(1_000),
-                };
+                return at_song((1 << 51) - 1 - self.dice.below(1_000));
             }
             _ => {
-                return At {
-                    kind: at::SONG,
-                    frame: (position + self.dice.below(200)).saturating_sub(80),
-                };
+                let beside = position + self.dice.below(200);
+                return at_song(beside.saturating_sub(80));
             }
         };
         self.last_frame = named;
-        At {
-            kind: at::FRAME,
-            frame: named,
-        }
+        at_frame(named)
     }
 
     // ---- what would be refused
@@ -461,7 +467,8 @@ impl Player {
         self.call(Call::Retire(clip))
     }
 
-    /// Replays the last list, if every clip in it is still loaded and its stingers may all wait.
+    /// Replays the last list, if it has records, every clip in it is still loaded, and its stingers may
+    /// all wait.
     fn replay(&mut self) -> Result<(), Difference> {
         let (list, _) = self.both.ours.list.as_chunks::<5>();
         let live: Vec<u64> = self.loaded().map(handle_word).collect();
@@ -469,7 +476,8 @@ impl Player {
             let claims = [kind::SWAP, kind::STINGER].contains(&(row[2] as u32));
             claims && !live.contains(&row[3])
         };
-        if list.iter().any(stale) || stingers(list.iter()) > self.stingers_left() {
+        if list.is_empty() || list.iter().any(stale) || stingers(list.iter()) > self.stingers_left()
+        {
             return Ok(());
         }
         self.call(Call::Replay)
@@ -494,10 +502,7 @@ impl Player {
                 kind::GAIN,
             ]);
             let command = self.of_kind(kind);
-            let at = At {
-                kind: at::FRAME,
-                frame: frame + self.dice.below(4),
-            };
+            let at = at_frame(frame + self.dice.below(4));
             self.submit(command, at)?;
         }
         self.call(Call::StopCapture)?;
@@ -513,6 +518,33 @@ const NOW: At = At {
     kind: at::IMMEDIATE,
     frame: 0,
 };
+
+/// At a clock frame.
+fn at_frame(frame: u64) -> At {
+    At {
+        kind: at::FRAME,
+        frame,
+    }
+}
+
+/// At a song frame.
+fn at_song(frame: u64) -> At {
+    At {
+        kind: at::SONG,
+        frame,
+    }
+}
+
+/// A command whose kind uses no other field.
+fn plain(kind: u32) -> Command {
+    Command {
+        kind,
+        gain: 0.0,
+        clip: Handle { slot: 0, serial: 0 },
+        frame: 0,
+        end: 0,
+    }
+}
 
 /// How many of these records are stingers.
 fn stingers<'a>(rows: impl Iterator<Item = &'a Row>) -> usize {

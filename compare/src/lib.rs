@@ -10,6 +10,7 @@ pub mod domain;
 pub mod dsl;
 pub mod dsp;
 pub mod generator;
+pub mod list;
 pub mod ours;
 pub mod program;
 pub mod reached;

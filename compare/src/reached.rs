@@ -26,9 +26,14 @@ const NAMES: [&str; 14] = [
     "room used again",
 ];
 
-/// A count for each situation.
+/// A count for each situation, and of the calls, the frames and the samples that were not silent.
 #[derive(Clone, Copy, Default)]
-pub struct Reached([u64; NAMES.len()]);
+pub struct Reached {
+    situations: [u64; NAMES.len()],
+    calls: u64,
+    frames: u64,
+    sounding: u64,
+}
 
 /// Our session at a moment between two calls.
 pub struct Moment {
@@ -98,14 +103,19 @@ impl Reached {
             block == Some(4_096),
             again,
         ];
-        for (count, seen) in self.0.iter_mut().zip(seen) {
+        for (count, seen) in self.situations.iter_mut().zip(seen) {
             *count += u64::from(seen);
+        }
+        self.calls += 1;
+        if let Answer::Samples(bits) = answer {
+            self.frames += bits.len() as u64 / 2;
+            self.sounding += bits.iter().filter(|bits| **bits != 0).count() as u64;
         }
     }
 
     /// The situations that were never reached.
     pub fn missing(&self) -> Vec<&'static str> {
-        let counted = NAMES.into_iter().zip(self.0);
+        let counted = NAMES.into_iter().zip(self.situations);
         let never = counted.filter(|(_, count)| *count == 0);
         never.map(|(name, _)| name).collect()
     }
@@ -113,15 +123,21 @@ impl Reached {
 
 impl AddAssign for Reached {
     fn add_assign(&mut self, more: Reached) {
-        for (count, more) in self.0.iter_mut().zip(more.0) {
+        for (count, more) in self.situations.iter_mut().zip(more.situations) {
             *count += more;
         }
+        self.calls += more.calls;
+        self.frames += more.frames;
+        self.sounding += more.sounding;
     }
 }
 
 impl fmt::Display for Reached {
     fn fmt(&self, f: &mut fmt::Formatter<'_>) -> fmt::Result {
-        for (name, count) in NAMES.into_iter().zip(self.0) {
+        writeln!(f, "{:>10}  calls", self.calls)?;
+        writeln!(f, "{:>10}  frames", self.frames)?;
+        writeln!(f, "{:>10}  samples that were not silent", self.sounding)?;
+        for (name, count) in NAMES.into_iter().zip(self.situations) {
             writeln!(f, "{count:>10}  {name}")?;
         }
         Ok(())

@@ -87,7 +87,7 @@ fn a_length_beyond_the_clip() {
 fn gain_zero_at_rest() {
     let mut session = started(&steady(0.5, 300), [Submission::Play, Submission::Gain(0.0)]);
     let out = left(&session.block(257));
-    assert_eq!(out[0], 0.498046875);
+    assert_eq!(out[0], 0.5 * 255.0 / 256.0);
     assert_eq!(out[254], 0.5 / 256.0);
     assert_eq!(out[255..], [0.0, 0.0]);
 }
