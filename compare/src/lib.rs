@@ -9,6 +9,7 @@ pub mod dice;
 pub mod domain;
 pub mod dsl;
 pub mod dsp;
+pub mod faults;
 pub mod generator;
 pub mod list;
 pub mod ours;

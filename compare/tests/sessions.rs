@@ -1,0 +1,26 @@
+//! Random sessions on both sides, and the fixed list.
+
+use std::fs;
+
+use compare::list;
+use compare::sessions;
+
+#[test]
+fn our_library_and_the_rust_agree() {
+    let reached = sessions::run(0, sessions::GATE).unwrap_or_else(|x| panic!("{x}"));
+    println!("{reached}");
+    assert_eq!(reached.missing(), Vec::<&str>::new(), "never reached");
+}
+
+#[test]
+fn the_fixed_list_is_what_the_writer_writes() {
+    let (text, reached) = list::written().unwrap_or_else(|x| panic!("{x}"));
+    println!("{reached}");
+    assert_eq!(reached.missing(), Vec::<&str>::new(), "never reached");
+    assert!(text.len() <= list::MOST_BYTES);
+    let committed = fs::read_to_string(list::path()).expect("the list is there");
+    assert!(
+        committed == text,
+        "the list is old: run `cargo run --release --bin answers`"
+    );
+}
