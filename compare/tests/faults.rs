@@ -45,7 +45,7 @@ fn sessions_needed(fault: &Fault) -> Option<u64> {
     let folder = Path::new(env!("CARGO_TARGET_TMPDIR")).join(fault.name);
     let cargo = env::var("CARGO").expect("cargo runs the tests");
     let built = Command::new(cargo)
-        .args(["build", "--release", "--bin", "sessions"])
+        .args(["build", "--profile", "fault", "--bin", "sessions"])
         .args([
             "--manifest-path",
             concat!(env!("CARGO_MANIFEST_DIR"), "/Cargo.toml"),
@@ -55,7 +55,7 @@ fn sessions_needed(fault: &Fault) -> Option<u64> {
         .env("TONO_FAULT", fault.name)
         .output();
     said(built.expect("cargo can be run"), true);
-    let played = Command::new(folder.join("release/sessions"))
+    let played = Command::new(folder.join("fault/sessions"))
         .arg(GATE.to_string())
         .output();
     let played = said(played.expect("the sessions can be played"), false);
