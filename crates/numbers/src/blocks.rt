@@ -1,8 +1,6 @@
 //! Block numbers, over sessions laid by hand.
-use crate::print::number;
-use crate::print::samples;
-use crate::print::stands;
-use crate::print::text;
+use crate::told::samples;
+use crate::told::stands;
 use bank::Bank;
 use bank::Clip;
 use bank::Kind;
@@ -12,6 +10,8 @@ use counts::SamplePlace;
 use counts::SongFrame;
 use oneshot::Voice;
 use oneshot::Voices;
+use print::number;
+use print::text;
 use ramp::Ramp;
 use session::Answered;
 use session::Desk;

@@ -1,9 +1,9 @@
 //! The full queue, at the Rust's own capacity.
-use crate::print::number;
-use crate::print::text;
 use crate::refusals::full_told;
 use crate::refusals::opened;
 use counts::ClockFrame;
+use print::number;
+use print::text;
 use session::Session;
 use stage::Settings;
 use timeline::Submission;

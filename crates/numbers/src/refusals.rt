@@ -1,5 +1,4 @@
 //! Each refusal number once, at a call: 'Each gives its number alone; all lent stores and the session stay, save 15.'
-use crate::print::text;
 use bank::Kind;
 use clips::LoadAnswer;
 use clips::LoadAnswered;
@@ -7,6 +6,7 @@ use control::PerformanceSnapshot;
 use counts::ClockFrame;
 use counts::Handle;
 use counts::SongFrame;
+use print::text;
 use session::Session;
 use stage::Settings;
 use submission::SubmitAnswered;
@@ -47,8 +47,8 @@ pub fn handle_of(a: LoadAnswer) -> Handle {
 fn load_told(s: Session, r: LoadAnswered, pool: &[f32], was: &[f32]) {
     let a = r.answer;
     let after = r.session;
-    crate::print::load_answer(a);
-    crate::print::kept(crate::same::session(s, after) & crate::same::samples(pool, was));
+    print::load_answer(a);
+    crate::told::kept(crate::same::session(s, after) & crate::same::samples(pool, was));
 }
 
 /// A load into the pool of 8 frames.
@@ -77,8 +77,8 @@ fn submit_told(
 ) {
     let a = r.answer;
     let after = r.session;
-    crate::print::submit_answer(a);
-    crate::print::kept(
+    print::submit_answer(a);
+    crate::told::kept(
         crate::same::session(s, after)
             & crate::same::words(queue, queue_was)
             & crate::same::words(capture, capture_was),
@@ -112,12 +112,12 @@ pub fn full_told(
 ) {
     let a = r.answer;
     let after = r.session;
-    crate::print::submit_answer(a);
+    print::submit_answer(a);
     text(b", dropped ");
     let d = after.desk;
-    crate::print::number(d.dropped);
+    print::number(d.dropped);
     text(b", but for that");
-    crate::print::kept(
+    crate::told::kept(
         crate::same::session_but_dropped(s, after)
             & crate::same::words(queue, queue_was)
             & crate::same::words(capture, capture_was),
@@ -137,8 +137,8 @@ fn stores() {
     let r = control::metrics(s, &short, &capture);
     let a = r.answer;
     let after = r.session;
-    crate::print::metrics_answer(a);
-    crate::print::kept(crate::same::session(s, after));
+    print::metrics_answer(a);
+    crate::told::kept(crate::same::session(s, after));
     text(b"  load, lent a pool of 7 frames where 8 are named: ");
     let mut other = [0.0; 14];
     let was = other;
@@ -174,8 +174,8 @@ fn clock() {
     let r = block::block(s, &queue, &capture, &pool, &mut out);
     let a = r.answer;
     let after = r.session;
-    crate::print::answer(a);
-    crate::print::kept(crate::same::session(s, after) & crate::same::samples(&out, &was));
+    print::answer(a);
+    crate::told::kept(crate::same::session(s, after) & crate::same::samples(&out, &was));
 }
 
 /// '5: clip without samples.' '6: sample not finite or above 16.' '7: clip rate (8,000 to 192,000) outside its range.'
@@ -302,8 +302,8 @@ fn snapshot_gain() {
     let r = control::apply_snapshot(s, &queue, &capture, x);
     let a = r.answer;
     let after = r.session;
-    crate::print::answer(a);
-    crate::print::kept(crate::same::session(s, after));
+    print::answer(a);
+    crate::told::kept(crate::same::session(s, after));
 }
 
 /// '15: queue full.'
@@ -414,8 +414,8 @@ fn song_held() {
     let r = clips::retire(s, &queue, &capture, s.song());
     let a = r.answer;
     let after = r.session;
-    crate::print::answer(a);
-    crate::print::kept(crate::same::session(s, after));
+    print::answer(a);
+    crate::told::kept(crate::same::session(s, after));
 }
 
 /// '20: list for captured records too short.'
@@ -434,8 +434,8 @@ fn list_short() {
     let r = control::stop_capture(full, &queue, &capture, &mut list);
     let a = r.answer;
     let after = r.session;
-    crate::print::stop_answer(a);
-    crate::print::kept(crate::same::session(full, after) & crate::same::words(&list, &was));
+    print::stop_answer(a);
+    crate::told::kept(crate::same::session(full, after) & crate::same::words(&list, &was));
 }
 
 fn row(at: u64, kind: u64) -> Row {
@@ -463,11 +463,11 @@ fn unreadable() {
     let r = submission::replay(s, &mut queue, &capture, &list);
     let a = r.answer;
     let after = r.session;
-    crate::print::replay_answer(a);
+    print::replay_answer(a);
     text(b"\n    then metrics: ");
     let m = control::metrics(after, &queue, &capture);
     let b = m.answer;
-    crate::print::metrics_answer(b);
+    print::metrics_answer(b);
     text(b"\n");
 }
 

@@ -1,14 +1,14 @@
 //! A clip is dropped and replaced while a queued swap names it.
-use crate::print::samples;
-use crate::print::text;
 use crate::refusals::handle_of;
 use crate::refusals::opened;
+use crate::told::samples;
 use bank::Kind;
 use clips::LoadAnswer;
 use clips::LoadAnswered;
 use counts::ClockFrame;
 use counts::Handle;
 use counts::SongFrame;
+use print::text;
 use session::Session;
 use stage::Settings;
 use timeline::Submission;
@@ -25,7 +25,7 @@ fn load(
     let lasts = Kind::Song(SongFrame(3));
     let r = clips::load(s, queue, capture, pool, samples, lasts, 48000);
     let a = r.answer;
-    crate::print::load_answer(a);
+    print::load_answer(a);
     let after = r.session;
     lies(after, a);
     r
@@ -38,9 +38,9 @@ fn lies(s: Session, a: LoadAnswer) {
         let b = s.bank;
         let c = bank::clip_of(b, h);
         text(b", from frame ");
-        crate::print::number(c.start);
+        print::number(c.start);
         text(b" of the pool, ");
-        crate::print::number(c.frames);
+        print::number(c.frames);
         text(b" frames\n");
     }
 }
@@ -48,7 +48,7 @@ fn lies(s: Session, a: LoadAnswer) {
 fn swap(s: Session, queue: &mut [u64; 10], capture: &mut [u64; 5], h: Handle, at: At) -> Session {
     let r = submission::submit(s, queue, capture, Submission::Swap(h), at);
     let a = r.answer;
-    crate::print::submit_answer(a);
+    print::submit_answer(a);
     text(b"\n");
     r.session
 }
@@ -56,7 +56,7 @@ fn swap(s: Session, queue: &mut [u64; 10], capture: &mut [u64; 5], h: Handle, at
 fn retire(s: Session, queue: &[u64; 10], capture: &[u64; 5], h: Handle) -> Session {
     let r = clips::retire(s, queue, capture, h);
     let a = r.answer;
-    crate::print::answer(a);
+    print::answer(a);
     text(b"\n");
     r.session
 }
@@ -69,7 +69,7 @@ fn block(
     out: &mut [f32],
 ) -> Session {
     let r = block::block(s, queue, capture, pool, out);
-    crate::print::stands(r);
+    crate::told::stands(r);
     r.session
 }
 
@@ -176,7 +176,7 @@ pub fn replaced() {
     text(b"a song is replaced while a queued swap names it\n  open with A, a song of 2 frames: ");
     let first = opened(settings, &queue, &capture, &mut pool);
     let a = first.song();
-    crate::print::handle(a);
+    print::handle(a);
     text(b"\n  load B, a song of 3 frames: ");
     let song = [0.0625; 6];
     let r = load(first, &queue, &capture, &mut pool, &song);

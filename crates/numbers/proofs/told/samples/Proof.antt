@@ -1,8 +1,8 @@
 -- Safe, and ends. Assumes nothing.
 use Prim.Native.Nat.{_-_}
 use borrow.Author.Needs.{needs}
-use Rattle.numbers.proofs.print.samples.Statement.{statement}
-use Rattle.numbers.proofs.print.samples.Tie as tie
+use Rattle.numbers.proofs.told.samples.Statement.{statement}
+use Rattle.numbers.proofs.told.samples.Tie as tie
 
 abbrev Inv-loop : tie.InvT-loop
 Inv-loop out from to i₀ t5 i = Unit {0}

@@ -1,8 +1,8 @@
 -- Safe, and ends. Assumes nothing.
 use Prim.Native.Nat.{_<_}
 use borrow.Author.Needs.{needs}
-use Rattle.numbers.proofs.print.decimal.Statement.{statement}
-use Rattle.numbers.proofs.print.decimal.Tie as tie
+use Rattle.print.proofs.decimal.Statement.{statement}
+use Rattle.print.proofs.decimal.Tie as tie
 
 abbrev Inv-loop : tie.InvT-loop
 Inv-loop parts rest₀ places₀ rest places = rest < 16777216

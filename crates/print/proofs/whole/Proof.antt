@@ -2,15 +2,12 @@
 use lib.Ieee.{ofBits, neg}
 use borrow.Author.Needs.{needs}
 use Rattle.counts.proofs.Truth.{T-is}
-use Rattle.numbers.proofs.print.magnitude.Statement.{statement}
-use Rattle.numbers.proofs.print.magnitude.Tie as tie
+use Rattle.print.proofs.whole.Statement.{statement}
+use Rattle.print.proofs.whole.Tie as tie
 
 truncating-f32-to-u64-requires : tie.Need-truncating-f32-to-u64-requires
 unfolding ofBits neg
 truncating-f32-to-u64-requires c κs = (T-is _ (c .before .if1 .taken), T-is _ (c .if2 .taken))
-
-decimal-requires : tie.Need-decimal-requires
-decimal-requires c κs = search needs
 
 returns : tie.Need-returns
 returns c = search needs
@@ -21,7 +18,5 @@ returns-2 c = search needs
 returns-3 : tie.Need-returns-3
 returns-3 c = search needs
 
-pub magnitude-spec : {M : Type 1} → statement M
-magnitude-spec =
-    tie.close
-    (tie.spec truncating-f32-to-u64-requires decimal-requires returns returns-2 returns-3)
+pub whole-spec : {M : Type 1} → statement M
+whole-spec = tie.close (tie.spec truncating-f32-to-u64-requires returns returns-2 returns-3)

@@ -1,4 +1,4 @@
-//! Writes answers, sessions and samples.
+//! Writes answers and samples, for the programs.
 use clips::LoadAnswer;
 use control::MetricsAnswer;
 use control::SnapshotAnswer;
@@ -6,9 +6,7 @@ use control::StopAnswer;
 use counts::Handle;
 use libc::STDOUT_FILENO;
 use session::Answer;
-use session::Answered;
 use session::Refusal;
-use session::Session;
 use submission::ReplayAnswer;
 use submission::SubmitAnswer;
 use transport::TransportState;
@@ -21,28 +19,29 @@ pub fn number(n: u64) {
     io::print_decimal(STDOUT_FILENO, n);
 }
 
-/// A sample of magnitude at most 16, in full; anything else as a word.
-fn sample(x: f32) {
+/// The whole part of a number; 0 for one below 0 or from 2^64 on.
+pub fn whole(x: f32) -> u64 {
+    if x > -1.0 {
+        if x < 18446744073709551616.0 {
+            return std::num::truncating_f32_to_u64(x);
+        }
+    }
+    0
+}
+
+/// A sample of magnitude at most 16, in full to the 2^24th; anything else as a word.
+pub fn sample(x: f32) {
     if !ramp::is_between(-16.0, 16.0, x) {
         text(b"loud");
         return;
     }
+    let parts = x * 16777216.0;
     if x < 0.0 {
         text(b"-");
-        magnitude(0.0 - x);
+        decimal(whole(0.0 - parts));
         return;
     }
-    magnitude(x);
-}
-
-/// A magnitude in 2^24ths, which these samples have no finer parts than.
-fn magnitude(x: f32) {
-    let y = x * 16777216.0;
-    if y > -1.0 {
-        if y < 18446744073709551616.0 {
-            decimal(std::num::truncating_f32_to_u64(y));
-        }
-    }
+    decimal(whole(parts));
 }
 
 /// So many 2^24ths, in full.
@@ -62,19 +61,7 @@ fn decimal(parts: u64) {
     }
 }
 
-/// The samples of a block's output from one place on to another.
-pub fn samples(out: &[f32], from: usize, to: usize) {
-    let mut i = from;
-    while i < to {
-        if i < out.len() {
-            text(b" ");
-            sample(out[i]);
-        }
-        i += 1;
-    }
-}
-
-fn state(s: TransportState) {
+pub fn state(s: TransportState) {
     match s {
         TransportState::Stopped => text(b"Stopped"),
         TransportState::Playing => text(b"Playing"),
@@ -176,37 +163,4 @@ pub fn metrics_answer(a: MetricsAnswer) {
         }
         MetricsAnswer::Refused(k) => refused(k),
     }
-}
-
-/// Where a session stands.
-pub fn place(s: Session) {
-    text(b", clock ");
-    number(s.clock().0);
-    text(b", position ");
-    number(s.position().0);
-    text(b", ");
-    state(s.state());
-    text(b", executed ");
-    let stage = s.stage;
-    number(stage.counters.executed);
-    text(b", queued ");
-    number(s.queue_depth() as u64);
-    text(b"\n");
-}
-
-/// What a block answered, and where the session then stands.
-pub fn stands(r: Answered) {
-    let a = r.answer;
-    answer(a);
-    let s = r.session;
-    place(s);
-}
-
-/// Whether a refused call left all as it was.
-pub fn kept(same: bool) {
-    if same {
-        text(b", all as it was\n");
-        return;
-    }
-    text(b", CHANGED\n");
 }

@@ -1,0 +1,52 @@
+//! What the numbers are told by: samples, where a session stands, and whether all is as it was.
+use print::answer;
+use print::number;
+use print::sample;
+use print::text;
+use session::Answered;
+use session::Session;
+
+/// The samples of a block's output from one place on to another.
+pub fn samples(out: &[f32], from: usize, to: usize) {
+    let mut i = from;
+    while i < to {
+        if i < out.len() {
+            text(b" ");
+            sample(out[i]);
+        }
+        i += 1;
+    }
+}
+
+/// Where a session stands.
+pub fn place(s: Session) {
+    text(b", clock ");
+    number(s.clock().0);
+    text(b", position ");
+    number(s.position().0);
+    text(b", ");
+    print::state(s.state());
+    text(b", executed ");
+    let stage = s.stage;
+    number(stage.counters.executed);
+    text(b", queued ");
+    number(s.queue_depth() as u64);
+    text(b"\n");
+}
+
+/// What a block answered, and where the session then stands.
+pub fn stands(r: Answered) {
+    let a = r.answer;
+    answer(a);
+    let s = r.session;
+    place(s);
+}
+
+/// Whether a refused call left all as it was.
+pub fn kept(same: bool) {
+    if same {
+        text(b", all as it was\n");
+        return;
+    }
+    text(b", CHANGED\n");
+}
