@@ -9,7 +9,7 @@ use std::hint::black_box;
 use std::time::Instant;
 
 use compare::session::{At, Session, Song, Stinger, Submission};
-use threshreed::raw;
+use threshreed::{ClockFrame, Command, Handle, WORDS};
 
 const RATE: u32 = 48_000;
 const QUEUE: usize = 4_096;
@@ -33,206 +33,117 @@ fn interleaved(frames: &[(f32, f32)]) -> Vec<f32> {
         .collect()
 }
 
-/// Our session with its stores.
-struct Ours {
-    session: raw::Session,
-    queue: Vec<u64>,
-    capture: Vec<u64>,
-    pool: Vec<f32>,
-}
-
-impl Ours {
-    fn open(song: &[f32]) -> Ours {
-        let queue = vec![0; QUEUE * 5];
-        let capture = Vec::new();
-        let mut pool = vec![0.0; POOL * 2];
-        let settings = raw::Settings {
-            rate: RATE,
-            queue: QUEUE,
-            capture: 0,
-            pool: POOL as u64,
-        };
-        let opened = unsafe {
-            raw::threshreed_open(
-                settings,
-                queue.as_ptr(),
-                queue.len(),
-                capture.as_ptr(),
-                capture.len(),
-                pool.as_mut_ptr(),
-                pool.len(),
-                song.as_ptr(),
-                song.len(),
-                RATE,
-                (song.len() / 2) as u64,
-            )
-        };
-        assert_eq!(opened.refusal, 0);
-        Ours {
-            session: opened.session,
-            queue,
-            capture,
-            pool,
-        }
-    }
-
-    /// The session that loading leaves, and the clip's handle.
-    fn loaded(&mut self, kind: u32, samples: &[f32]) -> (raw::Session, raw::Handle) {
-        let loaded = unsafe {
-            raw::threshreed_load(
-                self.session,
-                self.queue.as_ptr(),
-                self.queue.len(),
-                self.capture.as_ptr(),
-                self.capture.len(),
-                self.pool.as_mut_ptr(),
-                self.pool.len(),
-                samples.as_ptr(),
-                samples.len(),
-                kind,
-                (samples.len() / 2) as u64,
-                RATE,
-            )
-        };
-        assert_eq!(loaded.refusal, 0);
-        (loaded.session, loaded.handle)
-    }
-
-    fn load(&mut self, kind: u32, samples: &[f32]) -> raw::Handle {
-        let (session, handle) = self.loaded(kind, samples);
-        self.session = session;
-        handle
-    }
-
-    fn submit(&mut self, kind: u32, clip: raw::Handle, gain: f32, at: raw::At) {
-        let command = raw::Command {
-            kind,
-            gain,
-            clip,
-            frame: 0,
-            end: 0,
-        };
-        let submitted = unsafe {
-            raw::threshreed_submit(
-                self.session,
-                self.queue.as_mut_ptr(),
-                self.queue.len(),
-                self.capture.as_mut_ptr(),
-                self.capture.len(),
-                command,
-                at,
-            )
-        };
-        assert_eq!(submitted.refusal, 0);
-        self.session = submitted.session;
-    }
-
-    /// The session that a block leaves.
-    fn after(&self, session: raw::Session, out: &mut [f32]) -> raw::Session {
-        let answered = unsafe {
-            raw::threshreed_block(
-                session,
-                self.queue.as_ptr(),
-                self.queue.len(),
-                self.capture.as_ptr(),
-                self.capture.len(),
-                self.pool.as_ptr(),
-                self.pool.len(),
-                out.as_mut_ptr(),
-                out.len(),
-            )
-        };
-        assert_eq!(answered.refusal, 0);
-        answered.session
-    }
-}
-
-const AT_ONCE: raw::At = raw::At { kind: 1, frame: 0 };
-const NO_CLIP: raw::Handle = raw::Handle { slot: 0, serial: 0 };
-
 /// A frame that no block here reaches.
 const LATER: u64 = 1 << 40;
 
-/// Both sides, with the same song playing.
-struct Both {
-    ours: Ours,
-    tono: Session,
-    song: Song,
-    stinger: Stinger,
-    next: raw::Handle,
-    bell: raw::Handle,
+/// The stores of our session.
+struct Stores {
+    queue: Vec<u64>,
+    pool: Vec<f32>,
 }
 
-impl Both {
-    fn playing() -> Both {
+impl Stores {
+    fn new() -> Stores {
+        Stores {
+            queue: vec![0; QUEUE * WORDS],
+            pool: vec![0.0; POOL * 2],
+        }
+    }
+
+    fn open(&mut self, song: &[f32]) -> threshreed::Session<'_> {
+        threshreed::Session::open(
+            RATE,
+            &mut self.queue,
+            &mut [],
+            &mut self.pool,
+            threshreed::Song::new(song, RATE),
+        )
+        .expect("the song has room")
+    }
+}
+
+/// Both sides, with the same song playing.
+struct Both<'a> {
+    ours: threshreed::Session<'a>,
+    tono: Session,
+    next: (Handle, Song),
+    bell: (Handle, Stinger),
+}
+
+impl Both<'_> {
+    fn playing(stores: &mut Stores) -> Both<'_> {
         let room = audio(400_000, 220.0);
         let other = audio(400_000, 330.0);
         let ring = audio(400_000, 880.0);
-        let mut ours = Ours::open(&interleaved(&room));
-        let next = ours.load(1, &interleaved(&other));
-        let bell = ours.load(2, &interleaved(&ring));
-        let tono = Session::open(&Song::new(RATE, &room, room.len() as u64));
+        let mut ours = stores.open(&interleaved(&room));
+        let samples = interleaved(&other);
+        let next = ours
+            .load_song(threshreed::Song::new(&samples, RATE))
+            .expect("the song has room");
+        let samples = interleaved(&ring);
+        let bell = ours
+            .load_stinger(threshreed::Stinger {
+                samples: &samples,
+                rate: RATE,
+            })
+            .expect("the stinger has room");
         let mut both = Both {
             ours,
-            tono,
-            song: Song::new(RATE, &other, other.len() as u64),
-            stinger: Stinger::new(RATE, &ring),
-            next,
-            bell,
+            tono: Session::open(&Song::new(RATE, &room, room.len() as u64)),
+            next: (next, Song::new(RATE, &other, other.len() as u64)),
+            bell: (bell, Stinger::new(RATE, &ring)),
         };
-        both.ours.submit(1, NO_CLIP, 0.0, AT_ONCE);
-        both.submitted(Submission::Play);
+        both.submit(Command::Play, Submission::Play, 0);
         both.block(&mut [0.0; 2]);
         both
     }
 
-    fn submitted(&mut self, submission: Submission) {
+    /// A command for a clock frame on both sides, in their own terms.
+    fn submit(&mut self, ours: Command, tono: Submission, frame: u64) {
+        self.ours
+            .submit(ours, threshreed::At::Frame(ClockFrame(frame)))
+            .expect("the queue has room");
         self.tono
-            .submit(submission, At::Immediate)
+            .submit(tono, At::Frame(frame))
             .expect("the queue has room");
     }
 
     fn ring(&mut self, voices: usize) {
         for _ in 0..voices {
-            self.ours.submit(10, self.bell, 0.5, AT_ONCE);
-            let stinger = Submission::Stinger(self.stinger.clone(), 0.5);
-            self.submitted(stinger);
+            let (handle, stinger) = self.bell.clone();
+            self.submit(
+                Command::Stinger(handle, 0.5),
+                Submission::Stinger(stinger, 0.5),
+                0,
+            );
         }
     }
 
-    fn gain(&mut self, gain: f32) {
-        self.ours.submit(8, NO_CLIP, gain, AT_ONCE);
-        self.submitted(Submission::Gain(gain));
+    fn gain(&mut self, gain: f32, frame: u64) {
+        self.submit(Command::Gain(gain), Submission::Gain(gain), frame);
     }
 
     fn swap(&mut self) {
-        self.ours.submit(9, self.next, 0.0, AT_ONCE);
-        self.submitted(Submission::Swap(self.song.clone()));
+        let (handle, song) = self.next.clone();
+        self.submit(Command::Swap(handle), Submission::Swap(song), 0);
     }
 
     /// Commands that wait far off.
     fn wait(&mut self, commands: usize) {
         for i in 0..commands as u64 {
-            let at = raw::At {
-                kind: 2,
-                frame: LATER + i,
-            };
-            self.ours.submit(8, NO_CLIP, 1.0, at);
-            self.tono
-                .submit(Submission::Gain(1.0), At::Frame(LATER + i))
-                .expect("the queue has room");
+            self.gain(1.0, LATER + i);
         }
     }
 
     /// A block on both sides, to the same samples.
     fn block(&mut self, out: &mut [f32]) {
-        self.ours.session = self.ours.after(self.ours.session, out);
         let mut theirs = vec![0.0; out.len()];
+        self.ours.block(out).expect("the block is made");
         self.tono.fill(&mut theirs);
         assert!(
             out.iter()
                 .zip(&theirs)
-                .all(|(a, b)| a.to_bits() == b.to_bits())
+                .all(|(ours, tono)| ours.to_bits() == tono.to_bits())
         );
     }
 }
@@ -244,9 +155,9 @@ struct Time {
     tono: f64,
 }
 
-fn nanoseconds(of: impl FnOnce()) -> f64 {
+fn nanoseconds<T>(of: impl FnOnce() -> T) -> f64 {
     let from = Instant::now();
-    of();
+    black_box(of());
     from.elapsed().as_nanos() as f64
 }
 
@@ -256,8 +167,8 @@ fn median(mut of: Vec<f64>) -> f64 {
 }
 
 /// A run of one case: the median of its rounds.
-fn run(mut round: impl FnMut() -> Time) -> Time {
-    let rounds: Vec<Time> = (0..ROUNDS).map(|_| round()).collect();
+fn run(rounds: usize, mut round: impl FnMut() -> Time) -> Time {
+    let rounds: Vec<Time> = (0..rounds).map(|_| round()).collect();
     Time {
         ours: median(rounds.iter().map(|time| time.ours).collect()),
         tono: median(rounds.iter().map(|time| time.tono).collect()),
@@ -290,18 +201,19 @@ enum During {
 
 /// One block of so many frames; ours without the check if `checked` is false.
 fn block(frames: usize, voices: usize, waiting: usize, during: During, checked: bool) -> Time {
-    let mut both = Both::playing();
+    let mut stores = Stores::new();
+    let mut both = Both::playing(&mut stores);
     both.wait(waiting);
     both.ring(voices);
+    both.block(&mut [0.0; 256]);
     let mut out = vec![0.0; frames * 2];
-    both.block(&mut vec![0.0; 256]);
     let mut louder = false;
-    run(|| {
+    run(ROUNDS, || {
         match during {
             During::Rest => {}
             During::Gain => {
                 louder = !louder;
-                both.gain(if louder { 1.5 } else { 0.5 });
+                both.gain(if louder { 1.5 } else { 0.5 }, 0);
                 both.block(&mut [0.0; 2]);
             }
             During::Swap => {
@@ -309,11 +221,8 @@ fn block(frames: usize, voices: usize, waiting: usize, during: During, checked: 
                 both.block(&mut [0.0; 2]);
             }
         }
-        let came = both.ours.session;
-        let check = nanoseconds(|| {
-            black_box(both.ours.after(black_box(came), &mut []));
-        });
-        let ours = nanoseconds(|| both.ours.session = both.ours.after(black_box(came), &mut out));
+        let ours = nanoseconds(|| both.ours.block(black_box(&mut out)));
+        let check = nanoseconds(|| both.ours.block(black_box(&mut [])));
         let tono = nanoseconds(|| both.tono.fill(black_box(&mut out)));
         Time {
             ours: if checked { ours } else { ours - check },
@@ -322,25 +231,22 @@ fn block(frames: usize, voices: usize, waiting: usize, during: During, checked: 
     })
 }
 
-/// A submission into a queue of 4,095: the last 64 places, one after the other.
+/// A submission into a queue of 4,095 or a little less: the last 64 places, one after the other.
 fn submission() -> Time {
-    let mut both = Both::playing();
+    let mut stores = Stores::new();
+    let mut both = Both::playing(&mut stores);
     both.wait(QUEUE - 64);
+    let frames = || LATER / 2..LATER / 2 + 64;
     let ours = nanoseconds(|| {
-        for i in 0..64 {
-            let at = raw::At {
-                kind: 2,
-                frame: LATER / 2 + i,
-            };
-            both.ours.submit(8, NO_CLIP, 1.0, at);
+        for frame in frames() {
+            let at = threshreed::At::Frame(ClockFrame(frame));
+            black_box(both.ours.submit(Command::Gain(1.0), at)).expect("the queue has room");
         }
     });
     let tono = nanoseconds(|| {
-        for i in 0..64 {
-            let submitted = both
-                .tono
-                .submit(Submission::Gain(1.0), At::Frame(LATER / 2 + i));
-            black_box(submitted).expect("the queue has room");
+        for frame in frames() {
+            black_box(both.tono.submit(Submission::Gain(1.0), At::Frame(frame)))
+                .expect("the queue has room");
         }
     });
     Time {
@@ -354,16 +260,24 @@ fn load() -> Time {
     let frames = audio(1_000_000, 440.0);
     let samples = interleaved(&frames);
     let stinger = Stinger::new(RATE, &frames);
-    let mut ours = Ours::open(&samples[..2]);
+    let mut stores = Stores::new();
+    let mut ours = stores.open(&samples[..2]);
     let mut tono = Session::open(&Song::new(RATE, &frames[..1], 1));
-    run(|| Time {
-        ours: nanoseconds(|| {
-            black_box(ours.loaded(2, black_box(&samples)));
-        }),
-        tono: nanoseconds(|| {
-            let rendered = tono.submit(Submission::Stinger(stinger.clone(), 1.0), At::Frame(LATER));
-            black_box(rendered).expect("the queue has room");
-        }),
+    run(ROUNDS, || {
+        let clip = threshreed::Stinger {
+            samples: &samples,
+            rate: RATE,
+        };
+        let mut loaded = None;
+        let time = Time {
+            ours: nanoseconds(|| loaded = Some(ours.load_stinger(black_box(clip)))),
+            tono: nanoseconds(|| {
+                tono.submit(Submission::Stinger(stinger.clone(), 1.0), At::Frame(LATER))
+            }),
+        };
+        let handle = loaded.expect("it was timed").expect("the clip has room");
+        ours.retire(handle).expect("nothing holds the clip");
+        time
     })
 }
 
@@ -409,6 +323,6 @@ fn main() {
             || block(512, 1, waiting, During::Rest, true),
         );
     }
-    line("a submission into a queue of 4,095", submission);
+    line("a submission into a queue of 4,095", || run(5, submission));
     line("a load of a million frames", load);
 }
