@@ -32,7 +32,11 @@ answered-requires c κs = search needs
 
 returns-2 : tie.Need-returns-2
 unfolding applyHost
-returns-2 c = call-done _ _ _ _ (rw (c .before .before .before .before .before .before .is-snapshot .ensures) at (c .before .before .before .before .before .weigh .ensures)) (c .before .before .before .before .if1 .left) (rw (c .answered .ensures, ← c .before .before .before .session-of .ensures, ← c .before .before .snapshot-of .ensures, ← c .before .apply-snapshot .ensures))
+returns-2 c =
+    let called = c .before in
+    let past = called .before .before .before in
+    call-done _ _ _ _ (rw (past .before .before .is-snapshot .ensures) at (past .before .weigh .ensures)) (past .if1 .left)
+    (rw (c .answered .ensures, ← called .before .before .session-of .ensures, ← called .before .snapshot-of .ensures, ← called .apply-snapshot .ensures))
 
 pub threshreed-apply-snapshot-spec : {M : Type 1} → statement M
 threshreed-apply-snapshot-spec =

@@ -29,7 +29,11 @@ same-length c = search needs
 
 returns-2 : tie.Need-returns-2
 unfolding blockHost
-returns-2 c = call-done _ _ _ _ (c .before .before .before .before .before .before .before .weigh .ensures) (c .before .before .before .before .before .before .if1 .left) (rw (c .answered .ensures, ← c .before .before .before .before .before .session-of .ensures, ← c .before .before .before .block .ensures))
+returns-2 c =
+    let called = c .before .before .before in
+    let past = called .before .before .before in
+    call-done _ _ _ _ (past .before .weigh .ensures) (past .if1 .left)
+    (rw (c .answered .ensures, ← called .before .before .session-of .ensures, ← called .block .ensures))
 
 pub threshreed-block-spec : {M : Type 1} → statement M
 threshreed-block-spec =

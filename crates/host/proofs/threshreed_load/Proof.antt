@@ -35,7 +35,11 @@ same-length c = search needs
 
 returns-2 : tie.Need-returns-2
 unfolding loadHost
-returns-2 c = call-done _ _ _ _ (rw (c .before .before .before .before .before .before .before .before .before .is-kind .ensures) at (c .before .before .before .before .before .before .before .before .weigh .ensures)) (c .before .before .before .before .before .before .before .if1 .left) (rw (c .loaded .ensures, ← c .before .before .before .before .before .before .session-of .ensures, ← c .before .before .before .before .before .kind-of .ensures, ← c .before .before .before .load .ensures))
+returns-2 c =
+    let called = c .before .before .before in
+    let past = called .before .before .before .before in
+    call-done _ _ _ _ (rw (past .before .before .is-kind .ensures) at (past .before .weigh .ensures)) (past .if1 .left)
+    (rw (c .loaded .ensures, ← called .before .before .before .session-of .ensures, ← called .before .before .kind-of .ensures, ← called .load .ensures))
 
 pub threshreed-load-spec : {M : Type 1} → statement M
 threshreed-load-spec =

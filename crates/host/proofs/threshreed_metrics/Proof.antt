@@ -26,7 +26,11 @@ metered-requires c κs = search needs
 
 returns-2 : tie.Need-returns-2
 unfolding metricsHost
-returns-2 c = call-done _ _ _ _ (c .before .before .before .before .weigh .ensures) (c .before .before .before .if1 .left) (rw (c .metered .ensures, ← c .before .before .session-of .ensures, ← c .before .metrics .ensures))
+returns-2 c =
+    let called = c .before in
+    let past = called .before .before in
+    call-done _ _ _ _ (past .before .weigh .ensures) (past .if1 .left)
+    (rw (c .metered .ensures, ← called .before .session-of .ensures, ← called .metrics .ensures))
 
 pub threshreed-metrics-spec : {M : Type 1} → statement M
 threshreed-metrics-spec =

@@ -32,7 +32,11 @@ same-length-2 c = search needs
 
 returns-2 : tie.Need-returns-2
 unfolding replayHost
-returns-2 c = call-done _ _ _ _ (c .before .before .before .before .before .before .before .weigh .ensures) (c .before .before .before .before .before .before .if1 .left) (rw (c .replayed .ensures, ← c .before .before .before .before .before .session-of .ensures, ← c .before .before .before .replay .ensures))
+returns-2 c =
+    let called = c .before .before .before in
+    let past = called .before .before .before in
+    call-done _ _ _ _ (past .before .weigh .ensures) (past .if1 .left)
+    (rw (c .replayed .ensures, ← called .before .before .session-of .ensures, ← called .replay .ensures))
 
 pub threshreed-replay-spec : {M : Type 1} → statement M
 threshreed-replay-spec =

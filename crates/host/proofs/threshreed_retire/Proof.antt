@@ -26,7 +26,11 @@ answered-requires c κs = search needs
 
 returns-2 : tie.Need-returns-2
 unfolding retireHost
-returns-2 c = call-done _ _ _ _ (c .before .before .before .before .weigh .ensures) (c .before .before .before .if1 .left) (rw (c .answered .ensures, ← c .before .before .session-of .ensures, ← c .before .retire .ensures))
+returns-2 c =
+    let called = c .before in
+    let past = called .before .before in
+    call-done _ _ _ _ (past .before .weigh .ensures) (past .if1 .left)
+    (rw (c .answered .ensures, ← called .before .session-of .ensures, ← called .retire .ensures))
 
 pub threshreed-retire-spec : {M : Type 1} → statement M
 threshreed-retire-spec =

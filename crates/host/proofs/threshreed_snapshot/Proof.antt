@@ -26,7 +26,11 @@ snapped-requires c κs = search needs
 
 returns-2 : tie.Need-returns-2
 unfolding snapshotHost
-returns-2 c = call-done _ _ _ _ (c .before .before .before .before .weigh .ensures) (c .before .before .before .if1 .left) (rw (c .snapped .ensures, ← c .before .before .session-of .ensures, ← c .before .snapshot .ensures))
+returns-2 c =
+    let called = c .before in
+    let past = called .before .before in
+    call-done _ _ _ _ (past .before .weigh .ensures) (past .if1 .left)
+    (rw (c .snapped .ensures, ← called .before .session-of .ensures, ← called .snapshot .ensures))
 
 pub threshreed-snapshot-spec : {M : Type 1} → statement M
 threshreed-snapshot-spec =

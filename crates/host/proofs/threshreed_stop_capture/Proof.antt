@@ -29,7 +29,11 @@ same-length c = search needs
 
 returns-2 : tie.Need-returns-2
 unfolding stopCaptureHost
-returns-2 c = call-done _ _ _ _ (c .before .before .before .before .before .before .before .weigh .ensures) (c .before .before .before .before .before .before .if1 .left) (rw (c .stopped .ensures, ← c .before .before .before .before .before .session-of .ensures, ← c .before .before .before .stop-capture .ensures))
+returns-2 c =
+    let called = c .before .before .before in
+    let past = called .before .before .before in
+    call-done _ _ _ _ (past .before .weigh .ensures) (past .if1 .left)
+    (rw (c .stopped .ensures, ← called .before .before .session-of .ensures, ← called .stop-capture .ensures))
 
 pub threshreed-stop-capture-spec : {M : Type 1} → statement M
 threshreed-stop-capture-spec =

@@ -50,7 +50,11 @@ same-length-4 c = search needs
 
 returns-2 : tie.Need-returns-2
 unfolding submitHost
-returns-2 c = call-done _ _ _ _ (rw (c .before .before .before .before .before .before .before .before .before .before .before .before .before .is-at .ensures, c .before .before .before .before .before .before .before .before .before .before .before .before .before .before .is-submission .ensures) at (c .before .before .before .before .before .before .before .before .before .before .before .before .weigh .ensures)) (c .before .before .before .before .before .before .before .before .before .before .before .if1 .left) (rw (c .submitted .ensures, ← c .before .before .before .before .before .before .before .before .before .before .session-of .ensures, ← c .before .before .before .before .before .before .before .before .before .submission-of .ensures, ← c .before .before .before .before .before .before .before .before .at-of .ensures, ← c .before .before .before .before .before .submit .ensures))
+returns-2 c =
+    let called = c .before .before .before .before .before in
+    let past = called .before .before .before .before .before .before in
+    call-done _ _ _ _ (rw (past .before .before .is-at .ensures, past .before .before .before .is-submission .ensures) at (past .before .weigh .ensures)) (past .if1 .left)
+    (rw (c .submitted .ensures, ← called .before .before .before .before .before .session-of .ensures, ← called .before .before .before .before .submission-of .ensures, ← called .before .before .before .at-of .ensures, ← called .submit .ensures))
 
 pub threshreed-submit-spec : {M : Type 1} → statement M
 threshreed-submit-spec =

@@ -44,7 +44,11 @@ same-length-4 c = search needs
 
 returns-2 : tie.Need-returns-2
 unfolding transitionHost
-returns-2 c = call-done _ _ _ _ (rw (c .before .before .before .before .before .before .before .before .before .before .before .before .is-at .ensures) at (c .before .before .before .before .before .before .before .before .before .before .before .weigh .ensures)) (c .before .before .before .before .before .before .before .before .before .before .if1 .left) (rw (c .submitted .ensures, ← c .before .before .before .before .before .before .before .before .before .session-of .ensures, ← c .before .before .before .before .before .before .before .before .at-of .ensures, ← c .before .before .before .before .before .transition .ensures))
+returns-2 c =
+    let called = c .before .before .before .before .before in
+    let past = called .before .before .before .before .before in
+    call-done _ _ _ _ (rw (past .before .before .is-at .ensures) at (past .before .weigh .ensures)) (past .if1 .left)
+    (rw (c .submitted .ensures, ← called .before .before .before .before .session-of .ensures, ← called .before .before .before .at-of .ensures, ← called .transition .ensures))
 
 pub threshreed-transition-spec : {M : Type 1} → statement M
 threshreed-transition-spec =
