@@ -2,7 +2,7 @@
 use mathlib.Core.Path.{_≡_, refl, sym, ap}
 use mathlib.Core.Bool.{Bool, true, false, not}
 use mathlib.Core.List.{List}
-use Prim.Native.Nat.{ℕ}
+use Prim.Native.Nat.{ℕ, _≤_}
 use native.Mathlib.Omega.{arith}
 use Rattle.session.specs.declared.Session.{Session}
 use Rattle.session.specs.declared.Refusal.{Refusal}
@@ -10,6 +10,30 @@ use Rattle.session.specs.declared.Weighed.{Weighed}
 use Rattle.session.specs.Refusal.{numberOf, first, unless}
 use Rattle.session.specs.WellFormed.{wellFormed, weighOnly}
 use Rattle.session.specs.Answer.{Says, refused, gives}
+
+-- no refusal has the number 0, which stands for none
+pub number-some : (k : Refusal) → 1 ≤ numberOf k
+number-some Refusal.NotWellFormed = omega arith
+number-some Refusal.PoolLength = omega arith
+number-some Refusal.OddSamples = omega arith
+number-some Refusal.ClockSpent = omega arith
+number-some Refusal.NoSamples = omega arith
+number-some Refusal.BadSample = omega arith
+number-some Refusal.OutOfRange = omega arith
+number-some Refusal.SlotsUsed = omega arith
+number-some Refusal.SerialsSpent = omega arith
+number-some Refusal.NoRoom = omega arith
+number-some Refusal.Stale = omega arith
+number-some Refusal.WrongKind = omega arith
+number-some Refusal.WrongRate = omega arith
+number-some Refusal.BadGain = omega arith
+number-some Refusal.QueueFull = omega arith
+number-some Refusal.CaptureFull = omega arith
+number-some Refusal.VoicesTaken = omega arith
+number-some Refusal.NumbersSpent = omega arith
+number-some Refusal.Held = omega arith
+number-some Refusal.ListTooShort = omega arith
+number-some Refusal.Unreadable = omega arith
 
 -- a test that holds gives its refusal,
 pub stop : (t : Bool) (k : Refusal) (rest : Weighed) → t ≡ true → Weighed.Refused k ≡ first t k rest
