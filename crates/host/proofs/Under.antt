@@ -2,9 +2,10 @@
 use mathlib.Core.Path.{_≡_, refl, sym, ap, _∙_}
 use mathlib.Core.Bool.{Bool, true, false, _&&_, cond}
 use mathlib.Core.List.{List}
-use Prim.Native.Nat.{ℕ}
+use Prim.Native.Nat.{ℕ, _≤_}
+use native.Mathlib.Omega.{arith}
 use lib.Dec.{eqb}
-use borrow.Author.Tests.{eqb-false}
+use borrow.Author.Tests.{eqb-false, ne-eqb}
 use lib.Ieee.{Float}
 use Rattle.counts.specs.declared.SongFrame.{SongFrame}
 use Rattle.counts.specs.declared.Handle.{Handle}
@@ -17,7 +18,7 @@ use Rattle.session.specs.declared.Answered.{Answered}
 use Rattle.session.specs.Refusal.{numberOf, first, unless}
 use Rattle.session.specs.WellFormed.{weighOnly}
 use Rattle.session.specs.Answer.{Says, refused, gives, says}
-use Rattle.session.proofs.Refuse.{refused-or-done}
+use Rattle.session.proofs.Refuse.{number-some, refused-or-done}
 use Rattle.block.specs.Block.{weighBlock, blockOf}
 use Rattle.clips.specs.declared.LoadAnswer.{LoadAnswer}
 use Rattle.clips.specs.declared.LoadAnswered.{LoadAnswered}
@@ -124,29 +125,9 @@ withStores f z = (f (z .0), z .1, z .2)
 
 -- ---- what is refused
 
--- no refusal has the number 0
+-- a refusal's number is read as that refusal: none is 0
 pub number-says : {A : Type 0} (k : Refusal) (v : A) → saysBy (numberOf k) v ≡ refused (numberOf k)
-number-says Refusal.NotWellFormed v = refl
-number-says Refusal.PoolLength v = refl
-number-says Refusal.OddSamples v = refl
-number-says Refusal.ClockSpent v = refl
-number-says Refusal.NoSamples v = refl
-number-says Refusal.BadSample v = refl
-number-says Refusal.OutOfRange v = refl
-number-says Refusal.SlotsUsed v = refl
-number-says Refusal.SerialsSpent v = refl
-number-says Refusal.NoRoom v = refl
-number-says Refusal.Stale v = refl
-number-says Refusal.WrongKind v = refl
-number-says Refusal.WrongRate v = refl
-number-says Refusal.BadGain v = refl
-number-says Refusal.QueueFull v = refl
-number-says Refusal.CaptureFull v = refl
-number-says Refusal.VoicesTaken v = refl
-number-says Refusal.NumbersSpent v = refl
-number-says Refusal.Held v = refl
-number-says Refusal.ListTooShort v = refl
-number-says Refusal.Unreadable v = refl
+number-says k v = let some : 1 ≤ numberOf k = number-some k in rw (ne-eqb (numberOf k) 0 (λ (e : numberOf k ≡ 0). omega arith))
 
 -- a refusal other than 15 leaves the session
 abbrev counts : Weighed → Bool
