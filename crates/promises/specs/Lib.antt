@@ -2,3 +2,4 @@ pub mod Calls
 pub mod Numbers
 pub mod Determined
 pub mod Tail
+pub mod Kept
