@@ -8,7 +8,9 @@ use crate::dice::Dice;
 use crate::domain::Walk;
 use crate::ours::{Row, handle_word};
 use crate::reached::{Moment, Reached};
-use crate::script::{CAPTURE, Call, Material, POOL, QUEUE, SONG, STINGER, at, kind, state};
+use crate::script::{
+    CAPTURE, Call, Material, NOW, POOL, QUEUE, SONG, STINGER, at_frame, at_song, kind, plain, state,
+};
 
 /// How long a session is.
 #[derive(Clone, Copy)]
@@ -510,39 +512,6 @@ impl Player {
             self.call(Call::Replay)?;
         }
         self.call(Call::Replay)
-    }
-}
-
-/// At once.
-const NOW: At = At {
-    kind: at::IMMEDIATE,
-    frame: 0,
-};
-
-/// At a clock frame.
-fn at_frame(frame: u64) -> At {
-    At {
-        kind: at::FRAME,
-        frame,
-    }
-}
-
-/// At a song frame.
-fn at_song(frame: u64) -> At {
-    At {
-        kind: at::SONG,
-        frame,
-    }
-}
-
-/// A command whose kind uses no other field.
-fn plain(kind: u32) -> Command {
-    Command {
-        kind,
-        gain: 0.0,
-        clip: Handle { slot: 0, serial: 0 },
-        frame: 0,
-        end: 0,
     }
 }
 

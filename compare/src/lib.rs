@@ -1,7 +1,16 @@
-//! tono's music runtime, compiled unchanged from the folder that `TONO_SRC` names, over small stand-ins
-//! for the parts of tono that it leans on. [`session`] offers document 01's calls over it.
+//! The Rust beside the proved library. tono's music runtime is compiled unchanged from the folder that
+//! `TONO_SRC` names, over small stand-ins for the parts of tono that it leans on, and [`session`] offers
+//! document 01's calls over it. The proved library is linked as a host links it.
 //!
-//! `cargo test` in this folder runs document 01's numbers on the Rust, and the differences from it.
+//! [`both`] plays a call on [`ours`] and on [`theirs`] and compares the answers and how the two then stand;
+//! [`script`] says what a call and an answer are. [`generator`] makes random sessions inside [`domain`],
+//! [`reached`] counts what they reach, and [`list`] writes the fixed list of the Rust's answers. [`faults`]
+//! are planted into a copy of the Rust to show that the comparison sees them.
+//!
+//! - `cargo test`: document 01's numbers on the Rust, the differences on both, spoiled sessions through the
+//!   static library, 2,000 random sessions on both, the fixed list, and the planted faults.
+//! - `cargo run --release --bin sessions -- 20000 [first seed]`: as many sessions as are wanted.
+//! - `cargo run --release --bin answers`: writes the fixed list.
 
 pub mod both;
 pub mod clip;

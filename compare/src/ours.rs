@@ -18,7 +18,8 @@ pub struct Ours {
     pub pool: Vec<f32>,
     /// The records that the last stop of capture gave.
     pub list: Vec<u64>,
-    snapshot: Option<raw::Snapshot>,
+    /// The snapshot taken last.
+    pub snapshot: Option<raw::Snapshot>,
 }
 
 /// A record as it lies in a store: frame, number, kind, and two words that the kind reads.
@@ -31,6 +32,11 @@ pub fn handle_word(clip: Handle) -> u64 {
 
 impl Ours {
     pub fn open(song: Material) -> (Ours, Answer) {
+        Ours::open_on(&clip::samples(song.seed, song.frames), song.extent)
+    }
+
+    /// A session on a song of these samples.
+    pub fn open_on(samples: &[f32], extent: u64) -> (Ours, Answer) {
         let settings = raw::Settings {
             rate: RATE,
             queue: QUEUE,
@@ -40,7 +46,6 @@ impl Ours {
         let queue = vec![0; QUEUE * 5];
         let capture = vec![0; CAPTURE * 5];
         let mut pool = vec![UNLOADED; POOL as usize * 2];
-        let samples = clip::samples(song.seed, song.frames);
         let opened = unsafe {
             raw::threshreed_open(
                 settings,
@@ -53,7 +58,7 @@ impl Ours {
                 samples.as_ptr(),
                 samples.len(),
                 RATE,
-                song.extent,
+                extent,
             )
         };
         let ours = Ours {
@@ -70,7 +75,10 @@ impl Ours {
     pub fn play(&mut self, call: &Call) -> Answer {
         match call {
             Call::Open(_) => panic!("the session is open"),
-            Call::Load(material) => self.load(*material),
+            Call::Load(clip) => {
+                let samples = clip::samples(clip.seed, clip.frames);
+                self.load(&samples, clip.kind, clip.extent, RATE)
+            }
             Call::Retire(clip) => self.retire(*clip),
             Call::Submit(command, at) => self.submit(*command, *at),
             Call::Transition(frame, at) => self.transition(*frame, *at),
@@ -83,8 +91,8 @@ impl Ours {
         }
     }
 
-    fn load(&mut self, material: Material) -> Answer {
-        let samples = clip::samples(material.seed, material.frames);
+    /// Loads a clip of these samples.
+    pub fn load(&mut self, samples: &[f32], kind: u32, extent: u64, rate: u32) -> Answer {
         let loaded = unsafe {
             raw::threshreed_load(
                 self.session,
@@ -96,9 +104,9 @@ impl Ours {
                 self.pool.len(),
                 samples.as_ptr(),
                 samples.len(),
-                material.kind,
-                material.extent,
-                RATE,
+                kind,
+                extent,
+                rate,
             )
         };
         self.session = loaded.session;

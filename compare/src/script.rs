@@ -105,6 +105,39 @@ pub const NO_LOOP: Loop = Loop {
     end: 0,
 };
 
+/// At once.
+pub const NOW: At = At {
+    kind: at::IMMEDIATE,
+    frame: 0,
+};
+
+/// At a clock frame.
+pub fn at_frame(frame: u64) -> At {
+    At {
+        kind: at::FRAME,
+        frame,
+    }
+}
+
+/// At a song frame.
+pub fn at_song(frame: u64) -> At {
+    At {
+        kind: at::SONG,
+        frame,
+    }
+}
+
+/// A command whose kind uses no other field.
+pub fn plain(kind: u32) -> Command {
+    Command {
+        kind,
+        gain: 0.0,
+        clip: Handle { slot: 0, serial: 0 },
+        frame: 0,
+        end: 0,
+    }
+}
+
 /// The numbers of a snapshot.
 pub fn snapshot_numbers(position: u64, state: u32, gain: f32, looped: Loop) -> Answer {
     Answer::Snapshot([

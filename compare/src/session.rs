@@ -3,7 +3,7 @@
 
 use std::sync::Arc;
 
-use crate::dsl::{SoundDoc, Treatment};
+use crate::dsl::{SoundDoc, TempoPoint, Treatment};
 use crate::program::{Program, Sections};
 use crate::runtime::AudioSource;
 use crate::runtime::performance::{self, Command, Performance};
@@ -25,6 +25,14 @@ impl Song {
     /// A song of these frames at this rate, whose length may exceed them.
     pub fn new(rate: u32, frames: &[Pair], length: u64) -> Song {
         Song(Arc::new(Program::new(prepared(rate, frames), length)))
+    }
+
+    /// The same song, but with so many frames to a beat, so that beat b and bar b are another frame.
+    pub fn with_beats_of(mut self, frames: u32) -> Song {
+        let program = Arc::make_mut(&mut self.0);
+        let beats_per_second = program.doc.sample_rate as f64 / frames as f64;
+        program.meta.tempo_map = vec![TempoPoint { beats_per_second }];
+        self
     }
 
     /// Whether this is the song that tono's command names.

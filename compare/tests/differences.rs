@@ -1,12 +1,126 @@
-//! Where the Rust differs from document 01, each at its smallest input. What is shown here is what the
-//! Rust does; above each test stands what document 01 says.
+//! Where the Rust differs from document 01, each at its smallest input, on the Rust and through the static
+//! library. Each test is an entry of docs/DIFFERENCES.md.
 
 mod common;
 
-use common::{RATE, heard, left, now, numbered, started, steady, submit};
-use compare::session::{At, PerformanceSnapshot, Session, Song, Stinger, Submission};
+use std::panic::{AssertUnwindSafe, catch_unwind};
 
-/// 17: 'a stinger while queued stingers + sounding voices = 16' is refused.
+use common::{RATE, heard, left, now, numbered, started, steady, submit};
+use compare::ours::Ours;
+use compare::script::{Answer, Call, NOW, POOL, SONG, STINGER, at_frame, kind, plain};
+use compare::session::{
+    At, PerformanceError, PerformanceSnapshot, Session, Song, Stinger, Submission,
+};
+use threshreed::raw::{Command, Handle, Report, Snapshot};
+
+// ---- our side
+
+/// The samples of a clip whose every frame is this sample on both sides.
+fn steadily(sample: f32, frames: usize) -> Vec<f32> {
+    vec![sample; frames * 2]
+}
+
+/// The samples of a clip whose frame i sounds as i/64.
+fn numberedly(frames: u32) -> Vec<f32> {
+    (0..2 * frames).map(|n| (n / 2) as f32 / 64.0).collect()
+}
+
+/// Our session over a song of these samples, as long as they are.
+fn ours(samples: &[f32]) -> Ours {
+    let (ours, answer) = Ours::open_on(samples, samples.len() as u64 / 2);
+    assert!(matches!(answer, Answer::Loaded(_)));
+    ours
+}
+
+fn loaded(ours: &mut Ours, samples: &[f32], kind: u32, rate: u32) -> Handle {
+    match ours.load(samples, kind, samples.len() as u64 / 2, rate) {
+        Answer::Loaded(handle) => handle,
+        other => panic!("{other:?}"),
+    }
+}
+
+fn taken(ours: &mut Ours, command: Command) {
+    let answer = ours.play(&Call::Submit(command, NOW));
+    assert!(matches!(answer, Answer::Queued(_)), "{answer:?}");
+}
+
+fn refused(ours: &mut Ours, command: Command) -> u32 {
+    match ours.play(&Call::Submit(command, NOW)) {
+        Answer::Refused(number) => number,
+        other => panic!("{other:?}"),
+    }
+}
+
+/// The left side of our next block.
+fn sounded(ours: &mut Ours, frames: usize) -> Vec<f32> {
+    match ours.play(&Call::Block(frames)) {
+        Answer::Samples(bits) => left(&bits.into_iter().map(f32::from_bits).collect::<Vec<_>>()),
+        other => panic!("{other:?}"),
+    }
+}
+
+fn swap_to(clip: Handle) -> Command {
+    Command {
+        clip,
+        ..plain(kind::SWAP)
+    }
+}
+
+fn sound(clip: Handle, gain: f32) -> Command {
+    Command {
+        clip,
+        gain,
+        ..plain(kind::STINGER)
+    }
+}
+
+fn gain(gain: f32) -> Command {
+    Command {
+        gain,
+        ..plain(kind::GAIN)
+    }
+}
+
+fn seek(frame: u64) -> Command {
+    Command {
+        frame,
+        ..plain(kind::SEEK)
+    }
+}
+
+/// The Rust's next frame reads a slice that its clip does not have.
+fn panics(mut session: Session) {
+    let block = catch_unwind(AssertUnwindSafe(|| session.block(1)));
+    let told = block.expect_err("the block panics");
+    let told = told.downcast_ref::<String>().expect("a panic says why");
+    assert!(told.contains("out of range for slice"), "{told}");
+}
+
+// ---- the entries
+
+#[test]
+fn a_clip_is_a_handle() {
+    let song = steady(0.5, 2);
+    let mut session = Session::open(&steady(0.0, 1));
+    now(&mut session, [Submission::Swap(song.clone())]);
+    drop(song);
+    assert_eq!(left(&session.block(1)), [0.5]);
+    let foreign = Song::new(44_100, &[(0.5, 0.5)], 1);
+    let answer = session.submit(Submission::Swap(foreign), At::Immediate);
+    assert!(matches!(answer, Err(PerformanceError::BadProgram(_))));
+
+    let mut ours = ours(&steadily(0.0, 1));
+    let song = loaded(&mut ours, &steadily(0.5, 2), SONG, RATE);
+    assert_eq!(ours.play(&Call::Retire(song)), Answer::Done);
+    assert_eq!(refused(&mut ours, swap_to(song)), 11);
+    let stinger = loaded(&mut ours, &steadily(0.5, 2), STINGER, RATE);
+    assert_eq!(stinger.slot, song.slot);
+    assert_eq!(refused(&mut ours, swap_to(song)), 11);
+    assert_eq!(refused(&mut ours, swap_to(stinger)), 12);
+    let foreign = loaded(&mut ours, &steadily(0.5, 1), SONG, 44_100);
+    assert_eq!(refused(&mut ours, swap_to(foreign)), 13);
+}
+
 #[test]
 fn seventeen_stingers_sound() {
     let mut session = Session::open(&steady(0.0, 1));
@@ -14,38 +128,61 @@ fn seventeen_stingers_sound() {
         let stinger = Stinger::new(RATE, &[(0.0625, 0.0625)]);
         now(&mut session, [Submission::Stinger(stinger, 1.0)]);
     }
-    session.block(1);
-    assert_eq!(session.metrics().stingers_fired, 17);
+    assert_eq!(left(&session.block(1)), [17.0 * 0.0625]);
+
+    let mut ours = ours(&steadily(0.0, 1));
+    let stinger = loaded(&mut ours, &steadily(0.0625, 1), STINGER, RATE);
+    for _ in 0..16 {
+        taken(&mut ours, sound(stinger, 1.0));
+    }
+    assert_eq!(refused(&mut ours, sound(stinger, 1.0)), 17);
+    assert_eq!(sounded(&mut ours, 1), [1.0]);
 }
 
-/// 16: 'capture on and full' is refused, at the latest after 4,096 records.
 #[test]
 fn a_capture_has_no_end() {
     let mut session = Session::open(&steady(0.0, 1));
     session.start_capture();
-    for _ in 0..4097 {
+    for _ in 0..4_097 {
         now(&mut session, [Submission::ClearLoop]);
         session.block(1);
     }
-    assert_eq!(session.stop_capture().len(), 4097);
+    assert_eq!(session.stop_capture().len(), 4_097);
+
+    let mut ours = ours(&steadily(0.0, 1));
+    ours.play(&Call::StartCapture);
+    for _ in 0..4_096 {
+        taken(&mut ours, plain(kind::CLEAR_LOOP));
+        sounded(&mut ours, 1);
+    }
+    assert_eq!(refused(&mut ours, plain(kind::CLEAR_LOOP)), 16);
 }
 
-/// 'Past the clip it gives +0.0 and stays.'
 #[test]
-#[should_panic(expected = "out of range for slice")]
 fn a_song_read_past_its_clip_panics() {
-    started(&steady(0.0, 1), [Submission::Seek(2), Submission::Play]).block(1);
+    let commands = [Submission::Seek(2), Submission::Play];
+    panics(started(&steady(0.5, 1), commands));
+
+    let mut ours = ours(&steadily(0.5, 1));
+    taken(&mut ours, seek(2));
+    taken(&mut ours, plain(kind::PLAY));
+    assert_eq!(sounded(&mut ours, 1), [0.0]);
+    assert_eq!(ours.session.cursor, 2);
 }
 
-/// 'The tail reads straight on, past its clip +0.0 with its cursor staying.'
 #[test]
-#[should_panic(expected = "out of range for slice")]
 fn a_tail_read_past_its_clip_panics() {
-    let swap = Submission::Swap(steady(0.0, 1));
-    started(&steady(0.0, 1), [Submission::Seek(2), swap]).block(1);
+    let commands = [Submission::Seek(2), Submission::Swap(steady(0.0, 1))];
+    panics(started(&steady(0.5, 1), commands));
+
+    let mut ours = ours(&steadily(0.5, 1));
+    let next = loaded(&mut ours, &steadily(0.0, 1), SONG, RATE);
+    taken(&mut ours, seek(2));
+    taken(&mut ours, swap_to(next));
+    assert_eq!(sounded(&mut ours, 1), [0.0]);
+    assert_eq!(ours.session.tail.cursor, 2);
 }
 
-/// 'At the length or past it: position = length, Stopped', and then +0.0, however blocks are cut.
 #[test]
 fn a_lagging_cursor_sounds_on_to_the_end_of_a_slice() {
     let commands = [
@@ -62,31 +199,101 @@ fn a_lagging_cursor_sounds_on_to_the_end_of_a_slice() {
     assert_eq!(heard(&cut.block(3)), [0.0, 1.0, 2.0]);
     assert_eq!(heard(&cut.block(1)), [0.0]);
     assert_eq!(cut.snapshot(), whole.snapshot());
+
+    for blocks in [vec![4], vec![3, 1]] {
+        let mut ours = ours(&numberedly(4));
+        taken(
+            &mut ours,
+            Command {
+                end: 3,
+                ..plain(kind::LOOP)
+            },
+        );
+        taken(&mut ours, seek(4));
+        taken(&mut ours, plain(kind::PLAY));
+        ours.play(&Call::Submit(plain(kind::CLEAR_LOOP), at_frame(1)));
+        let frames: Vec<f32> = blocks.iter().flat_map(|n| sounded(&mut ours, *n)).collect();
+        assert_eq!(frames, [0.0, 1.0 / 64.0, 2.0 / 64.0, 0.0]);
+    }
 }
 
-/// 'Execution takes gain -0.0 as +0.0.'
 #[test]
 fn a_gain_of_minus_zero_is_kept() {
+    let minus_zero = PerformanceSnapshot {
+        master_gain: -0.0,
+        ..Session::open(&steady(0.0, 1)).snapshot()
+    };
     let mut session = started(&steady(0.0, 1), [Submission::Gain(-0.0)]);
     session.block(1);
     assert!(session.snapshot().master_gain.is_sign_negative());
+    let mut session = Session::open(&steady(0.0, 1));
+    session.apply(&minus_zero);
+    assert!(session.snapshot().master_gain.is_sign_negative());
+
+    let mut ours = ours(&steadily(0.0, 1));
+    taken(&mut ours, gain(-0.0));
+    sounded(&mut ours, 1);
+    assert_eq!(ours.session.master.target.to_bits(), 0);
+    ours.play(&Call::Snapshot);
+    ours.snapshot = ours.snapshot.map(|x| Snapshot { gain: -0.0, ..x });
+    assert_eq!(ours.play(&Call::Apply), Answer::Done);
+    assert_eq!(ours.session.master.target.to_bits(), 0);
 }
 
-/// 14: 'gain not finite; stinger gain above 16' is refused.
+/// A transition to bar 3, submitted in a song with one frame to a bar, due in one with two.
 #[test]
-fn any_gain_is_taken() {
-    let mut session = started(
-        &steady(0.5, 2),
-        [Submission::Play, Submission::Gain(f32::NAN)],
-    );
-    assert!(session.block(1)[0].is_nan());
+fn a_bar_is_resolved_when_it_is_executed() {
+    let slow = steady(0.0, 16).with_beats_of(2);
+    let mut session = started(&steady(0.0, 16), [Submission::Swap(slow)]);
+    assert_eq!(session.transition(3, At::Frame(1)), Ok(2));
+    session.block(1);
+    assert_eq!(session.position(), 6);
 
-    let stinger = Stinger::new(RATE, &[(1.0, 1.0); 96]);
-    let mut session = started(&steady(0.0, 1), [Submission::Stinger(stinger, 17.0)]);
-    assert_eq!(left(&session.block(96))[95], 17.0);
+    let mut ours = ours(&steadily(0.0, 16));
+    let slow = loaded(&mut ours, &steadily(0.0, 16), SONG, RATE);
+    taken(&mut ours, swap_to(slow));
+    ours.play(&Call::Transition(3, at_frame(1)));
+    sounded(&mut ours, 1);
+    assert_eq!(ours.session.position, 3);
 }
 
-/// 14: 'snapshot gain outside 0..2' is refused.
+#[test]
+fn any_sample_is_played() {
+    let song = Song::new(RATE, &[(f32::NAN, 17.0)], 1);
+    let out = started(&song, [Submission::Play]).block(1);
+    assert!(out[0].is_nan());
+    assert_eq!(out[1], 17.0);
+
+    let (_, answer) = Ours::open_on(&[f32::NAN, 0.0], 1);
+    assert_eq!(answer, Answer::Refused(6));
+    let mut ours = ours(&steadily(0.5, 2));
+    let answer = ours.load(&[0.0, 17.0], STINGER, 1, RATE);
+    assert_eq!(answer, Answer::Refused(6));
+    ours.pool[..4].copy_from_slice(&[f32::NAN, f32::NAN, 17.0, 17.0]);
+    taken(&mut ours, plain(kind::PLAY));
+    assert_eq!(sounded(&mut ours, 2), [0.0, 0.0]);
+}
+
+/// Only our side is shown: no script brings the Rust's private counts to their ends.
+#[test]
+fn counts_have_an_end() {
+    let mut late = ours(&steadily(0.0, 1));
+    late.session.clock = 1 << 62;
+    assert_eq!(late.play(&Call::Block(1)), Answer::Refused(4));
+    late.session.clock -= 1;
+    assert_eq!(sounded(&mut late, 1), [0.0]);
+
+    let mut spent = ours(&steadily(0.0, 1));
+    spent.session.number = u64::MAX - 1;
+    let answer = spent.play(&Call::Submit(plain(kind::PLAY), NOW));
+    assert_eq!(answer, Answer::Queued(u64::MAX));
+    assert_eq!(refused(&mut spent, plain(kind::PLAY)), 18);
+
+    spent.session.last = u32::MAX;
+    let answer = spent.load(&steadily(0.0, 1), STINGER, 0, RATE);
+    assert_eq!(answer, Answer::Refused(9));
+}
+
 #[test]
 fn any_gain_of_a_snapshot_is_applied() {
     let mut session = started(&steady(0.5, 1), [Submission::Play]);
@@ -95,22 +302,93 @@ fn any_gain_of_a_snapshot_is_applied() {
         ..session.snapshot()
     });
     assert_eq!(left(&session.block(1)), [1.5]);
+
+    let mut ours = ours(&steadily(0.5, 1));
+    ours.play(&Call::Snapshot);
+    ours.snapshot = ours.snapshot.map(|x| Snapshot { gain: 3.0, ..x });
+    assert_eq!(ours.play(&Call::Apply), Answer::Refused(14));
 }
 
-/// 6: 'sample not finite or above 16' is refused.
 #[test]
-fn any_sample_is_played() {
-    let song = Song::new(RATE, &[(f32::NAN, 17.0)], 1);
-    let out = started(&song, [Submission::Play]).block(1);
-    assert!(out[0].is_nan());
-    assert_eq!(out[1], 17.0);
+fn any_gain_is_taken() {
+    let commands = [Submission::Play, Submission::Gain(f32::NAN)];
+    let mut session = started(&steady(0.5, 2), commands);
+    assert!(session.block(1)[0].is_nan());
+
+    let stinger = Stinger::new(RATE, &[(1.0, 1.0); 96]);
+    let mut session = started(&steady(0.0, 1), [Submission::Stinger(stinger, 17.0)]);
+    assert_eq!(left(&session.block(96))[95], 17.0);
+
+    let mut ours = ours(&steadily(0.5, 2));
+    let stinger = loaded(&mut ours, &steadily(1.0, 96), STINGER, RATE);
+    assert_eq!(refused(&mut ours, gain(f32::NAN)), 14);
+    assert_eq!(refused(&mut ours, gain(f32::INFINITY)), 14);
+    assert_eq!(refused(&mut ours, sound(stinger, 17.0)), 14);
 }
 
-/// 7: a 'song length outside its range' is refused, here one below its frames.
 #[test]
 fn a_length_below_the_frames_is_taken() {
     let song = Song::new(RATE, &[(0.5, 0.5), (0.25, 0.25)], 1);
     let mut session = started(&song, [Submission::Play]);
     assert_eq!(left(&session.block(2)), [0.5, 0.25]);
     assert_eq!(session.position(), 1);
+
+    let samples = [0.5, 0.5, 0.25, 0.25];
+    let (_, answer) = Ours::open_on(&samples, 1);
+    assert_eq!(answer, Answer::Refused(7));
+    let answer = ours(&samples).load(&samples, SONG, 1, RATE);
+    assert_eq!(answer, Answer::Refused(7));
+}
+
+#[test]
+fn any_number_of_any_clips_is_taken() {
+    let mut session = started(&Song::new(RATE, &[], 0), [Submission::Play]);
+    assert_eq!(left(&session.block(1)), [0.0]);
+    let songs: Vec<Song> = (0..40).map(|n| steady(n as f32 / 64.0, 1_000)).collect();
+    for song in &songs {
+        submit(&mut session, Submission::Swap(song.clone()), At::Frame(1));
+    }
+    session.block(1_100);
+    assert_eq!(session.metrics().swaps, 40);
+
+    let mut ours = ours(&steadily(0.0, 1));
+    let mut load = |samples: &[f32], rate| ours.load(samples, STINGER, 0, rate);
+    assert_eq!(load(&[], RATE), Answer::Refused(5));
+    assert_eq!(load(&[0.0], RATE), Answer::Refused(3));
+    assert_eq!(load(&[0.0, 0.0], 7_999), Answer::Refused(7));
+    let too_long = steadily(0.0, POOL as usize);
+    assert_eq!(load(&too_long, RATE), Answer::Refused(10));
+    for _ in 1..32 {
+        assert!(matches!(load(&[0.0, 0.0], RATE), Answer::Loaded(_)));
+    }
+    assert_eq!(load(&[0.0, 0.0], RATE), Answer::Refused(8));
+}
+
+#[test]
+fn a_replay_weighs_the_room_alone() {
+    let stinger = Submission::Stinger(Stinger::new(RATE, &[(0.0625, 0.0625)]), 1.0);
+    let mut session = Session::open(&steady(0.0, 1));
+    session.start_capture();
+    for _ in 0..16 {
+        now(&mut session, [stinger.clone()]);
+    }
+    let records = session.stop_capture();
+    session.replay(&records[..1]);
+    assert_eq!(session.queued(), 17);
+
+    let mut ours = ours(&steadily(0.0, 1));
+    let stinger = loaded(&mut ours, &steadily(0.0625, 1), STINGER, RATE);
+    ours.play(&Call::StartCapture);
+    for _ in 0..16 {
+        taken(&mut ours, sound(stinger, 1.0));
+    }
+    ours.play(&Call::StopCapture);
+    ours.list.truncate(5);
+    let skipped = Report {
+        taken: 0,
+        full: 0,
+        skipped: 1,
+    };
+    assert_eq!(ours.play(&Call::Replay), Answer::Replayed(skipped));
+    assert_eq!(ours.session.queued, 16);
 }

@@ -3,7 +3,7 @@
 
 use compare::clip;
 use compare::dice::Dice;
-use compare::script::{SONG, STINGER, at, kind, state};
+use compare::script::{NOW, SONG, STINGER, at_frame, kind, plain, state};
 use threshreed::raw::{
     self, At, Clip, Command, Handle, Loop, NO_SUCH_CASE, Ramp, Session, Settings, Snapshot,
 };
@@ -223,25 +223,13 @@ fn float_bits(samples: &[f32]) -> Vec<u32> {
     samples.iter().map(|sample| sample.to_bits()).collect()
 }
 
-fn plain(kind: u32) -> Command {
+/// A command of a kind, with something in every field but the clip.
+fn filled(kind: u32) -> Command {
     Command {
-        kind,
         gain: 0.5,
-        clip: Handle { slot: 0, serial: 0 },
         frame: 3,
         end: 9,
-    }
-}
-
-const NOW: At = At {
-    kind: at::IMMEDIATE,
-    frame: 0,
-};
-
-fn at_frame(frame: u64) -> At {
-    At {
-        kind: at::FRAME,
-        frame,
+        ..plain(kind)
     }
 }
 
@@ -253,7 +241,7 @@ fn good_arguments() -> Arguments {
         extent: 4,
         rate: RATE,
         clip: Handle { slot: 4, serial: 5 },
-        command: plain(kind::PLAY),
+        command: filled(kind::PLAY),
         frame: 2,
         at: NOW,
         list: vec![0; CAPTURE * 5],
@@ -329,13 +317,19 @@ fn good() -> Host {
 
     let swap = Command {
         clip: host.handle(PLAYED_SONG),
-        ..plain(kind::SWAP)
+        ..filled(kind::SWAP)
     };
     let stinger = Command {
         clip: host.handle(PLAYED_STINGER),
-        ..plain(kind::STINGER)
+        ..filled(kind::STINGER)
     };
-    for command in [swap, stinger, stinger, plain(kind::LOOP), plain(kind::GAIN)] {
+    for command in [
+        swap,
+        stinger,
+        stinger,
+        filled(kind::LOOP),
+        filled(kind::GAIN),
+    ] {
         host.submit(command, NOW);
     }
     let mut x = good_arguments();
@@ -343,12 +337,12 @@ fn good() -> Host {
     assert_eq!(host.call("start capture", &mut x), 0);
     let back = Command {
         clip: host.handle(OLD_SONG),
-        ..plain(kind::SWAP)
+        ..filled(kind::SWAP)
     };
-    host.submit(plain(kind::GAIN), at_frame(200));
+    host.submit(filled(kind::GAIN), at_frame(200));
     host.submit(stinger, at_frame(100));
     host.submit(back, at_frame(100));
-    host.submit(plain(kind::SEEK), at_frame(150));
+    host.submit(filled(kind::SEEK), at_frame(150));
 
     let s = &host.session;
     assert_eq!((s.queued, s.captured, s.voices.count), (4, 4, 2));
@@ -735,7 +729,7 @@ fn a_full_queue() {
     for dropped in [0, 41, u64::MAX] {
         let host = with(|h| {
             for _ in 4..QUEUE {
-                h.submit(plain(kind::PAUSE), at_frame(300));
+                h.submit(filled(kind::PAUSE), at_frame(300));
             }
             h.session.dropped = dropped;
         });
