@@ -42,9 +42,9 @@ pub struct Both {
 }
 
 impl Both {
-    pub fn open(seed: u64, song: Material, lines: bool) -> Result<Both, Difference> {
-        let (ours, our_answer) = Ours::open(song);
-        let (theirs, their_answer) = Theirs::open(song);
+    pub fn open(seed: u64, rate: u32, song: Material, lines: bool) -> Result<Both, Difference> {
+        let (ours, our_answer) = Ours::open(rate, song);
+        let (theirs, their_answer) = Theirs::open(rate, song);
         let mut both = Both {
             ours,
             theirs,

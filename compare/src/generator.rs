@@ -8,8 +8,10 @@ use crate::dice::Dice;
 use crate::domain::Walk;
 use crate::ours::{Row, handle_word};
 use crate::reached::{Moment, Reached};
+use crate::runtime::SCRATCH_FRAMES;
 use crate::script::{
-    CAPTURE, Call, Material, NOW, POOL, QUEUE, SONG, STINGER, at_frame, at_song, kind, plain, state,
+    CAPTURE, Call, Material, NOW, POOL, QUEUE, RATE, SONG, STINGER, at_frame, at_song, kind, plain,
+    state,
 };
 
 /// How long a session is.
@@ -42,8 +44,12 @@ pub struct Played {
 pub fn play(seed: u64, size: Size, lines: bool) -> Result<Played, Difference> {
     let mut dice = Dice::new(seed);
     let song = song(&mut dice, 1);
+    let rate = match size {
+        Size::Short => RATE,
+        Size::Long => dice.pick(&[RATE, RATE, RATE, 8_000, 44_100, 44_250, 192_000]),
+    };
     let mut player = Player {
-        both: Both::open(seed, song, lines)?,
+        both: Both::open(seed, rate, song, lines)?,
         mood: mood(&mut dice),
         dice,
         size,
@@ -213,7 +219,10 @@ impl Player {
             4 => 7,
             5..=6 => 64,
             7..=8 => 512,
-            9 if self.dice.one_in(3) => 4_096,
+            9 if self.dice.one_in(3) => match self.size {
+                Size::Long if self.dice.one_in(8) => SCRATCH_FRAMES + 1,
+                _ => 4_096,
+            },
             // Up to the next command, or a frame beside it.
             10..=14 => match to_first {
                 Some(frames) if frames < 2_000 => {

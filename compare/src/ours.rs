@@ -3,9 +3,7 @@
 use threshreed::raw::{self, Command, Handle};
 
 use crate::clip;
-use crate::script::{
-    Answer, CAPTURE, Call, Material, POOL, QUEUE, RATE, Standing, snapshot_numbers,
-};
+use crate::script::{Answer, CAPTURE, Call, Material, POOL, QUEUE, Standing, snapshot_numbers};
 
 /// What the pool holds where no clip lies: heard at once, if it is ever read.
 const UNLOADED: f32 = 7.0;
@@ -31,14 +29,14 @@ pub fn handle_word(clip: Handle) -> u64 {
 }
 
 impl Ours {
-    pub fn open(song: Material) -> (Ours, Answer) {
-        Ours::open_on(&clip::samples(song.seed, song.frames), song.extent)
+    pub fn open(rate: u32, song: Material) -> (Ours, Answer) {
+        Ours::open_on(rate, &clip::samples(song.seed, song.frames), song.extent)
     }
 
     /// A session on a song of these samples.
-    pub fn open_on(samples: &[f32], extent: u64) -> (Ours, Answer) {
+    pub fn open_on(rate: u32, samples: &[f32], extent: u64) -> (Ours, Answer) {
         let settings = raw::Settings {
-            rate: RATE,
+            rate,
             queue: QUEUE,
             capture: CAPTURE,
             pool: POOL,
@@ -57,7 +55,7 @@ impl Ours {
                 pool.len(),
                 samples.as_ptr(),
                 samples.len(),
-                RATE,
+                rate,
                 extent,
             )
         };
@@ -77,7 +75,8 @@ impl Ours {
             Call::Open(_) => panic!("the session is open"),
             Call::Load(clip) => {
                 let samples = clip::samples(clip.seed, clip.frames);
-                self.load(&samples, clip.kind, clip.extent, RATE)
+                let rate = self.session.settings.rate;
+                self.load(&samples, clip.kind, clip.extent, rate)
             }
             Call::Retire(clip) => self.retire(*clip),
             Call::Submit(command, at) => self.submit(*command, *at),

@@ -9,7 +9,7 @@ use crate::ours::Ours;
 use crate::script::{Answer, Call, state};
 
 /// The situations, in the order in which they are counted.
-const NAMES: [&str; 14] = [
+const NAMES: [&str; 17] = [
     "16 voices",
     "two due at a block's end",
     "a swap in a swap",
@@ -24,6 +24,9 @@ const NAMES: [&str; 14] = [
     "a block of 1 frame",
     "a block of 4,096 frames",
     "room used again",
+    "a submission refused with 15",
+    "a capture that has records",
+    "a replay that takes records",
 ];
 
 /// A count for each situation, and of the calls, the frames and the samples that were not silent.
@@ -79,6 +82,8 @@ impl Reached {
         let swapped = is.counters.swaps > was.counters.swaps;
         let transition = matches!((call, answer), (Call::Transition(..), Answer::Queued(_)));
         let full = matches!(answer, Answer::Replayed(report) if report.full > 0);
+        let taken = matches!(answer, Answer::Replayed(report) if report.taken > 0);
+        let records = matches!(answer, Answer::Records(records) if !records.is_empty());
         let again = match (call, answer) {
             (Call::Load(_), Answer::Loaded(handle)) => {
                 retired.contains(&is.clips[handle.slot as usize].start)
@@ -102,6 +107,9 @@ impl Reached {
             block == Some(1),
             block == Some(4_096),
             again,
+            *answer == Answer::Refused(15),
+            records,
+            taken,
         ];
         for (count, seen) in self.situations.iter_mut().zip(seen) {
             *count += u64::from(seen);

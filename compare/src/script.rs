@@ -5,6 +5,7 @@ use std::fmt;
 
 use threshreed::raw::{At, Command, Handle, Loop, Report};
 
+/// The rate of the fixed list.
 pub const RATE: u32 = 48_000;
 pub const QUEUE: usize = 4_096;
 pub const CAPTURE: usize = 4_096;

@@ -7,7 +7,7 @@ use crate::clip;
 use crate::ours::handle_word;
 use crate::runtime::performance;
 use crate::script::{
-    Answer, Call, Material, NO_LOOP, RATE, SONG, Standing, at, kind, snapshot_numbers, state,
+    Answer, Call, Material, NO_LOOP, SONG, Standing, at, kind, snapshot_numbers, state,
 };
 use crate::session::{
     self, Pair, PerformanceError, PerformanceSnapshot, Session, Song, Stinger, Submission,
@@ -15,6 +15,7 @@ use crate::session::{
 };
 
 pub struct Theirs {
+    rate: u32,
     session: Session,
     table: Table,
     list: Vec<TimestampedCommand>,
@@ -38,9 +39,10 @@ enum Clip {
 }
 
 impl Theirs {
-    pub fn open(material: Material) -> (Theirs, Answer) {
-        let song = song(material);
+    pub fn open(rate: u32, material: Material) -> (Theirs, Answer) {
+        let song = song(rate, material);
         let mut theirs = Theirs {
+            rate,
             session: Session::open(&song),
             table: Table {
                 slots: [const { None }; 32],
@@ -56,7 +58,7 @@ impl Theirs {
     pub fn play(&mut self, call: &Call) -> Answer {
         match call {
             Call::Open(_) => panic!("the session is open"),
-            Call::Load(material) => Answer::Loaded(self.table.load(made(*material))),
+            Call::Load(material) => Answer::Loaded(self.table.load(made(self.rate, *material))),
             Call::Retire(clip) => {
                 self.table.slots[clip.slot as usize] = None;
                 Answer::Done
@@ -211,17 +213,17 @@ fn pairs(samples: &[f32]) -> Vec<Pair> {
     samples.chunks(2).map(|pair| (pair[0], pair[1])).collect()
 }
 
-fn song(material: Material) -> Song {
+fn song(rate: u32, material: Material) -> Song {
     let samples = clip::samples(material.seed, material.frames);
-    Song::new(RATE, &pairs(&samples), material.extent)
+    Song::new(rate, &pairs(&samples), material.extent)
 }
 
-fn made(material: Material) -> Clip {
+fn made(rate: u32, material: Material) -> Clip {
     if material.kind == SONG {
-        return Clip::Song(song(material));
+        return Clip::Song(song(rate, material));
     }
     let samples = clip::samples(material.seed, material.frames);
-    Clip::Stinger(Stinger::new(RATE, &pairs(&samples)), samples)
+    Clip::Stinger(Stinger::new(rate, &pairs(&samples)), samples)
 }
 
 fn when(at: At) -> session::At {

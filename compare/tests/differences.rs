@@ -27,7 +27,7 @@ fn numberedly(frames: u32) -> Vec<f32> {
 
 /// Our session over a song of these samples, as long as they are.
 fn ours(samples: &[f32]) -> Ours {
-    let (ours, answer) = Ours::open_on(samples, samples.len() as u64 / 2);
+    let (ours, answer) = Ours::open_on(RATE, samples, samples.len() as u64 / 2);
     assert!(matches!(answer, Answer::Loaded(_)));
     ours
 }
@@ -264,7 +264,7 @@ fn any_sample_is_played() {
     assert!(out[0].is_nan());
     assert_eq!(out[1], 17.0);
 
-    let (_, answer) = Ours::open_on(&[f32::NAN, 0.0], 1);
+    let (_, answer) = Ours::open_on(RATE, &[f32::NAN, 0.0], 1);
     assert_eq!(answer, Answer::Refused(6));
     let mut ours = ours(&steadily(0.5, 2));
     let answer = ours.load(&[0.0, 17.0], STINGER, 1, RATE);
@@ -334,7 +334,7 @@ fn a_length_below_the_frames_is_taken() {
     assert_eq!(session.position(), 1);
 
     let samples = [0.5, 0.5, 0.25, 0.25];
-    let (_, answer) = Ours::open_on(&samples, 1);
+    let (_, answer) = Ours::open_on(RATE, &samples, 1);
     assert_eq!(answer, Answer::Refused(7));
     let answer = ours(&samples).load(&samples, SONG, 1, RATE);
     assert_eq!(answer, Answer::Refused(7));
