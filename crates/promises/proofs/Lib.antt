@@ -4,3 +4,4 @@ mod Leaves
 pub mod Tail
 pub mod Kept
 pub mod Never
+pub mod Exchanged

@@ -3,3 +3,4 @@ pub mod Numbers
 pub mod Determined
 pub mod Tail
 pub mod Kept
+pub mod Exchanged
