@@ -155,7 +155,12 @@ pub const FAULTS: &[Fault] = &[
         name: "loop-wraps-one-frame-late",
         edits: &[
             edit("transport", "fn advance", "pos >= end", "pos > end"),
-            edit("performance", "fn render_slice", "end.", "(end + 1)."),
+            edit(
+                "performance",
+                "fn render_slice",
+                "end.saturating",
+                "(end + 1).saturating",
+            ),
         ],
     },
     Fault {

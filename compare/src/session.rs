@@ -169,6 +169,11 @@ impl Session {
         self.0.transport().state()
     }
 
+    /// The value that the master gain rides to.
+    pub fn gain_target(&self) -> f32 {
+        self.0.master_gain()
+    }
+
     pub fn loop_range(&self) -> Option<(u64, u64)> {
         self.0.transport().loop_range()
     }

@@ -118,7 +118,7 @@ impl Theirs {
             position: self.session.position(),
             state: state_number(self.session.state()),
             looped: loop_numbers(self.session.loop_range()),
-            target: self.session.snapshot().master_gain.to_bits(),
+            target: self.session.gain_target().to_bits(),
             clock: self.session.clock(),
             rendered: metrics.frames_rendered,
             queued: self.session.queued(),

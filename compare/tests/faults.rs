@@ -3,14 +3,18 @@
 
 use std::env;
 use std::path::Path;
-use std::process::{Command, Output};
+use std::process::{Command, Stdio};
 use std::thread;
+use std::time::{Duration, Instant};
 
 use compare::faults::{FAULTS, Fault};
 use compare::sessions::GATE;
 
 /// How many faults are built and played at a time.
 const AT_A_TIME: usize = 2;
+
+/// How long the sessions of a fault may take.
+const AT_MOST: Duration = Duration::from_secs(60);
 
 #[test]
 fn every_fault_is_found() {
@@ -54,18 +58,27 @@ fn sessions_needed(fault: &Fault) -> Option<u64> {
         .arg(&folder)
         .env("TONO_FAULT", fault.name)
         .output();
-    said(built.expect("cargo can be run"), true);
-    let played = Command::new(folder.join("fault/sessions"))
-        .arg(GATE.to_string())
-        .output();
-    let played = said(played.expect("the sessions can be played"), false);
-    let seed = played.strip_prefix("session ")?.split(',').next()?;
+    let built = built.expect("cargo can be run");
+    let errors = String::from_utf8_lossy(&built.stderr);
+    assert!(built.status.success(), "{errors}");
+
+    let mut sessions = Command::new(folder.join("fault/sessions"));
+    let told = told(sessions.arg(GATE.to_string()));
+    let seed = told.strip_prefix("session ")?.split(',').next()?;
     Some(seed.parse::<u64>().expect("a seed is a number") + 1)
 }
 
-/// What a program wrote, which must have ended well if that is asked for.
-fn said(output: Output, well: bool) -> String {
-    let errors = String::from_utf8_lossy(&output.stderr);
-    assert!(output.status.success() || !well, "{errors}");
+/// What a program tells. It is ended if it takes too long, since a fault may never end.
+fn told(program: &mut Command) -> String {
+    program.stdout(Stdio::piped()).stderr(Stdio::null());
+    let mut playing = program.spawn().expect("the program can be run");
+    let started = Instant::now();
+    while playing.try_wait().expect("it can be asked").is_none() {
+        if started.elapsed() > AT_MOST {
+            playing.kill().expect("it can be ended");
+        }
+        thread::sleep(Duration::from_millis(10));
+    }
+    let output = playing.wait_with_output().expect("it has ended");
     String::from_utf8_lossy(&output.stdout).into_owned()
 }
