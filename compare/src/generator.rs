@@ -1,7 +1,7 @@
 //! Random sessions inside the domain of the comparison, each decided by its seed and its size, leaning
 //! towards short songs, loops, crowded frames and crowded swaps.
 
-use threshreed::raw::{At, Command, Handle};
+use threshreed::raw::{At, Clip, Command, Handle};
 
 use crate::both::{Both, Difference};
 use crate::dice::Dice;
@@ -82,6 +82,7 @@ struct Player {
     reached: Reached,
 }
 
+/// What a session may do next.
 #[derive(Clone, Copy)]
 enum Step {
     Submit,
@@ -99,6 +100,7 @@ enum Step {
 }
 
 impl Player {
+    /// A few clips, then steps until there were enough calls or frames.
     fn run(&mut self) -> Result<(), Difference> {
         let (calls, frames) = match self.size {
             Size::Short => (self.dice.from(10, 40), 3_000),
@@ -193,8 +195,7 @@ impl Player {
     fn block(&mut self, frames: usize) -> Result<bool, Difference> {
         let mut walk = Walk::ahead(&self.both.ours, frames);
         if frames > 0 && walk.frames == 0 {
-            let stop = plain(kind::STOP);
-            self.submit(stop, NOW)?;
+            self.submit(plain(kind::STOP), NOW)?;
             walk = Walk::ahead(&self.both.ours, frames);
             if walk.frames == 0 {
                 return Ok(false);
@@ -206,13 +207,9 @@ impl Player {
     }
 
     fn block_frames(&mut self) -> usize {
-        let session = &self.both.ours.session;
-        let clock = session.clock;
-        let to_first = self
-            .both
-            .ours
-            .first_due()
-            .map(|at| at.saturating_sub(clock));
+        let ours = &self.both.ours;
+        let clock = ours.session.clock;
+        let to_first = ours.first_due().map(|at| at.saturating_sub(clock));
         match self.dice.below(20) {
             0 => 0,
             1..=3 => 1,
@@ -434,9 +431,7 @@ impl Player {
         let ends = clips.iter().map(|clip| clip.start + clip.frames);
         let mut starts = std::iter::once(0).chain(ends);
         starts.any(|start| {
-            let apart = |x: &threshreed::raw::Clip| {
-                start + frames <= x.start || x.start + x.frames <= start
-            };
+            let apart = |x: &Clip| start + frames <= x.start || x.start + x.frames <= start;
             start + frames <= POOL && clips.iter().all(apart)
         })
     }
@@ -459,10 +454,7 @@ impl Player {
         let session = &ours.session;
         let voices = &session.voices.table[..session.voices.count];
         let held = |handle: &Handle| {
-            let named = |row: &Row| {
-                let claims = [kind::SWAP, kind::STINGER].contains(&(row[2] as u32));
-                claims && row[3] == handle_word(*handle)
-            };
+            let named = |row: &Row| claimed(row) == Some(handle_word(*handle));
             session.song == *handle
                 || session.tail.sounding == 1 && session.tail.song == *handle
                 || voices.iter().any(|voice| voice.handle == *handle)
@@ -483,10 +475,7 @@ impl Player {
     fn replay(&mut self) -> Result<(), Difference> {
         let (list, _) = self.both.ours.list.as_chunks::<5>();
         let live: Vec<u64> = self.loaded().map(handle_word).collect();
-        let stale = |row: &Row| {
-            let claims = [kind::SWAP, kind::STINGER].contains(&(row[2] as u32));
-            claims && !live.contains(&row[3])
-        };
+        let stale = |row: &Row| claimed(row).is_some_and(|clip| !live.contains(&clip));
         if list.is_empty() || list.iter().any(stale) || stingers(list.iter()) > self.stingers_left()
         {
             return Ok(());
@@ -522,6 +511,12 @@ impl Player {
         }
         self.call(Call::Replay)
     }
+}
+
+/// The handle that a Swap or a Stinger names, in its word.
+fn claimed(row: &Row) -> Option<u64> {
+    let claims = [kind::SWAP, kind::STINGER].contains(&(row[2] as u32));
+    claims.then_some(row[3])
 }
 
 /// How many of these records are stingers.
