@@ -6,39 +6,74 @@ mod visit;
 
 use print::text;
 use score::Scene;
-use visit::Visit;
+use session::Session;
 
-/// A stretch of the tour, cue by cue.
-fn play(v: Visit, pool: &[f32; 16000], scene: Scene) -> Visit {
-    let mut v = v;
+/// A scene of the tour, cue by cue.
+fn play(
+    s: Session,
+    queue: &mut [u64; 40],
+    capture: &mut [u64; 40],
+    pool: &[f32; 16000],
+    scene: Scene,
+) -> Session {
+    let mut s = s;
     let mut i: u32 = 0;
     while i < score::CUES {
-        v = visit::perform(v, pool, score::next(scene, i));
+        let cue = score::next(scene, i);
+        sheet::cue(cue);
+        s = visit::perform(s, queue, capture, pool, cue);
         i += 1;
     }
-    v
+    s
 }
 
-fn first_visit() -> Visit {
-    let mut pool = [0.0; 16000];
-    let v = visit::enter(&mut pool, [0; 25]);
-    sheet::heading();
-    let hall = play(v, &pool, Scene::Hall);
-    let nave = play(hall, &pool, Scene::Nave);
-    let halt = play(nave, &pool, Scene::Halt);
-    play(halt, &pool, Scene::Leave)
+/// From the hall into the nave, captured.
+fn way_in(
+    queue: &mut [u64; 40],
+    capture: &mut [u64; 40],
+    pool: &mut [f32; 16000],
+    list: &mut [u64; 25],
+) -> Session {
+    let entered = visit::enter(queue, capture, pool);
+    let captured = visit::start_capture(entered, queue, capture);
+    let hall = play(captured, queue, capture, pool, Scene::Hall);
+    let nave = play(hall, queue, capture, pool, Scene::Nave);
+    visit::stop_capture(nave, queue, capture, list)
 }
 
-fn second_visit(list: [u64; 25]) {
+/// From the nave out. What is done under the guide's word, the snapshot undoes.
+fn way_out(s: Session, queue: &mut [u64; 40], capture: &mut [u64; 40], pool: &[f32; 16000]) {
+    let halt = play(s, queue, capture, pool, Scene::Halt);
+    let x = visit::snapshot(halt, queue, capture);
+    let word = play(halt, queue, capture, pool, Scene::Word);
+    let back = visit::apply(word, queue, capture, x);
+    play(back, queue, capture, pool, Scene::Leave);
+}
+
+/// The whole tour. The list is then what its way in captured.
+fn first_visit(list: &mut [u64; 25]) {
+    let mut queue = [0; 40];
+    let mut capture = [0; 40];
     let mut pool = [0.0; 16000];
-    let v = visit::enter(&mut pool, list);
-    sheet::heading();
-    play(v, &pool, Scene::Again);
+    let s = way_in(&mut queue, &mut capture, &mut pool, list);
+    way_out(s, &mut queue, &mut capture, &pool);
+}
+
+/// What was captured, heard again.
+fn second_visit(list: &[u64; 25]) {
+    let mut queue = [0; 40];
+    let capture = [0; 40];
+    let mut pool = [0.0; 16000];
+    let s = visit::enter(&queue, &capture, &mut pool);
+    let t = visit::replay(s, &mut queue, &capture, list);
+    visit::blocks(t, &queue, &capture, &pool, 20);
 }
 
 fn main() {
-    let v = first_visit();
+    let mut list = [0; 25];
+    sheet::heading();
+    first_visit(&mut list);
     text(b"\n");
-    let list = v.list;
-    second_visit(list);
+    second_visit(&list);
+    text(b"\n");
 }

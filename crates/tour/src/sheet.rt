@@ -1,10 +1,16 @@
 //! The sheet: a line for each block and one for each thing that the guide does.
 ghost use Prim.Native.Nat.{_≤_};
+use crate::score::Cue;
+use clips::LoadAnswer;
+use control::SnapshotAnswer;
+use control::StopAnswer;
 use counts::Handle;
 use print::number;
 use print::text;
+use session::Answer;
 use session::Session;
 use stage::Tail;
+use submission::ReplayAnswer;
 use timeline::Submission;
 use transport::At;
 use transport::TransportState;
@@ -19,73 +25,126 @@ pub fn name(h: Handle) {
     }
 }
 
-// ---- what the guide does
+// ---- what the guide does, each on a line that it begins
 
-fn looped(start: u64, end: u64) {
-    text(b"> loop ");
-    number(start);
-    text(b"..");
-    number(end);
+pub fn loaded(a: LoadAnswer) {
+    match a {
+        LoadAnswer::Loaded(h) => loaded_as(h),
+        LoadAnswer::Refused(k) => print::refused(k),
+    }
 }
 
-fn ring(h: Handle, gain: f32) {
-    text(b"> ring the ");
+fn loaded_as(h: Handle) {
+    text(b"\n> load the ");
     name(h);
-    text(b" at ");
-    print::sample(gain);
+    text(b": ");
+    print::handle(h);
 }
 
-pub fn submission(x: Submission) {
+pub fn started(a: Answer) {
+    text(b"\n> start the capture: ");
+    print::answer(a);
+}
+
+pub fn stopped(a: StopAnswer) {
+    text(b"\n> stop the capture: ");
+    print::stop_answer(a);
+}
+
+pub fn replayed(a: ReplayAnswer) {
+    text(b"\n> replay what was captured: ");
+    print::replay_answer(a);
+}
+
+pub fn snapshot(a: SnapshotAnswer) {
+    text(b"\n> take a snapshot: ");
+    print::snapshot_answer(a);
+}
+
+pub fn applied(a: Answer) {
+    text(b"\n> apply the snapshot: ");
+    print::answer(a);
+}
+
+/// What a cue asks for.
+pub fn cue(c: Cue) {
+    match c {
+        Cue::Blocks(_) => {}
+        Cue::Submit(x, at) => submission(x, at),
+        Cue::Retire(h) => retire(h),
+        Cue::Rest => {}
+    }
+}
+
+fn submission(x: Submission, at: At) {
+    text(b"\n> ");
+    command(x);
+    time(at);
+}
+
+fn retire(h: Handle) {
+    text(b"\n> retire the ");
+    name(h);
+    text(b": ");
+}
+
+fn command(x: Submission) {
     match x {
-        Submission::Play => text(b"> play"),
-        Submission::Pause => text(b"> pause"),
-        Submission::Stop => text(b"> stop"),
-        Submission::Seek(f) => seek(f.0),
+        Submission::Play => text(b"play"),
+        Submission::Pause => text(b"pause"),
+        Submission::Stop => text(b"stop"),
+        Submission::Seek(f) => counted(b"seek ", f.0),
         Submission::Loop(s, e) => looped(s.0, e.0),
-        Submission::ClearLoop => text(b"> clear the loop"),
+        Submission::ClearLoop => text(b"clear the loop"),
         Submission::Gain(g) => gain(g),
         Submission::Swap(h) => swap(h),
         Submission::Stinger(h, g) => ring(h, g),
     }
 }
 
-fn seek(f: u64) {
-    text(b"> seek ");
-    number(f);
+fn looped(start: u64, end: u64) {
+    counted(b"loop ", start);
+    counted(b"..", end);
 }
 
 fn gain(g: f32) {
-    text(b"> gain ");
+    text(b"gain ");
     print::sample(g);
 }
 
 fn swap(h: Handle) {
-    text(b"> swap to the ");
+    text(b"swap to the ");
     name(h);
+}
+
+fn ring(h: Handle, g: f32) {
+    text(b"ring the ");
+    name(h);
+    text(b" at ");
+    gain(g);
 }
 
 fn time(at: At) {
     match at {
         At::Immediate => text(b" at once"),
-        At::Frame(f) => at_frame(b" at clock ", f.0),
-        At::Song(f) => at_frame(b" at song frame ", f.0),
+        At::Frame(f) => counted(b" at clock ", f.0),
+        At::Song(f) => counted(b" at song frame ", f.0),
     }
 }
 
-fn at_frame(kind: &[u8], f: u64) {
-    text(kind);
-    number(f);
-}
-
-/// When a submission asks to be carried out, and the clock frame that this comes to.
+/// The clock frame that a time comes to.
 pub fn due(s: Session, at: At) {
-    time(at);
     let stage = s.stage;
     let playhead = stage.playhead;
     let transport = playhead.transport;
     let clock = transport.deadline(stage.clock, at);
-    at_frame(b", due at ", clock.0);
+    counted(b", due at ", clock.0);
     text(b": ");
+}
+
+fn counted(what: &[u8], n: u64) {
+    text(what);
+    number(n);
 }
 
 // ---- a line for each block
@@ -124,6 +183,7 @@ fn fading(h: Handle) {
 
 /// Clock, position and state.
 fn stands(s: Session) {
+    text(b"\n");
     column(s.clock().0);
     column(s.position().0);
     state(s.state());
@@ -185,12 +245,12 @@ fn meter(out: &[f32; 512]) {
     bar(left, b" ");
     text(b"|");
     bar(right, b"");
-    text(b"\n");
 }
 
 /// The names of the columns.
 pub fn heading() {
-    text(b"\n clock  song  state    room  tail voices  left right\n");
+    text(b"a tour of two rooms at 8,000 frames a second, peaks in thousandths\n");
+    text(b" clock  song  state    room  tail voices  left right");
 }
 
 /// Where a session stands after a block, and what it gave.

@@ -1,6 +1,5 @@
-//! A visit: a session with the stores that its host keeps, and each call on it, told on the sheet.
+//! A visit: each call on a session, over the stores that its host keeps, with its answer told on the sheet.
 use crate::rooms;
-use crate::rooms::Tone;
 use crate::score::Cue;
 use crate::sheet;
 use bank::Kind;
@@ -8,7 +7,6 @@ use control::PerformanceSnapshot;
 use control::SnapshotAnswer;
 use counts::Handle;
 use counts::SongFrame;
-use print::text;
 use session::Session;
 use stage::Settings;
 use timeline::Submission;
@@ -25,61 +23,26 @@ const SETTINGS: Settings = Settings {
     pool: 8000,
 };
 
-/// A session, its stores, the list for captured records, and the snapshot taken last.
-pub struct Visit {
-    pub session: Session,
-    pub queue: [u64; 40],
-    pub capture: [u64; 40],
-    pub list: [u64; 25],
-    pub snapshot: PerformanceSnapshot,
-}
-
 // ---- opening and loading
 
-/// A visit begins in the hall. The list is what an earlier visit captured.
-pub fn enter(pool: &mut [f32; 16000], list: [u64; 25]) -> Visit {
-    let queue = [0; 40];
-    let capture = [0; 40];
-    let s = hall(&queue, &capture, pool);
-    let t = nave(s, &queue, &capture, pool);
-    let session = bell(t, &queue, &capture, pool);
-    Visit {
-        session,
-        queue,
-        capture,
-        list,
-        snapshot: PerformanceSnapshot {
-            position: SongFrame(0),
-            state: TransportState::Stopped,
-            gain: 1.0,
-            looped: LoopRange::Off,
-        },
-    }
+/// A visit begins in the hall, with the nave and the bell at hand.
+pub fn enter(queue: &[u64; 40], capture: &[u64; 40], pool: &mut [f32; 16000]) -> Session {
+    let mut nave = [0.0; 6000];
+    let mut bell = [0.0; 1200];
+    rooms::sound(&mut nave, rooms::NAVE);
+    rooms::sound(&mut bell, rooms::BELL);
+    let s = open(queue, capture, pool);
+    let t = load(s, queue, capture, pool, &nave, Kind::Song(SongFrame(3000)));
+    load(t, queue, capture, pool, &bell, Kind::Stinger)
 }
 
-fn hall(queue: &[u64; 40], capture: &[u64; 40], pool: &mut [f32; 16000]) -> Session {
-    let mut clip = [0.0; 8000];
-    rooms::sound(&mut clip, rooms::HALL);
-    let r = clips::open(SETTINGS, queue, capture, pool, &clip, RATE, SongFrame(4000));
+fn open(queue: &[u64; 40], capture: &[u64; 40], pool: &mut [f32; 16000]) -> Session {
+    let mut hall = [0.0; 8000];
+    rooms::sound(&mut hall, rooms::HALL);
+    let r = clips::open(SETTINGS, queue, capture, pool, &hall, RATE, SongFrame(4000));
     let a = r.answer;
-    text(b"> open with the hall, a song of 4000 frames: ");
-    print::load_answer(a);
-    text(b"\n");
+    sheet::loaded(a);
     r.session
-}
-
-fn nave(s: Session, queue: &[u64; 40], capture: &[u64; 40], pool: &mut [f32; 16000]) -> Session {
-    let mut clip = [0.0; 6000];
-    rooms::sound(&mut clip, rooms::NAVE);
-    text(b"> load the nave, a song of 3000 frames: ");
-    load(s, queue, capture, pool, &clip, Kind::Song(SongFrame(3000)))
-}
-
-fn bell(s: Session, queue: &[u64; 40], capture: &[u64; 40], pool: &mut [f32; 16000]) -> Session {
-    let mut clip = [0.0; 1200];
-    rooms::sound(&mut clip, rooms::BELL);
-    text(b"> load the bell, a stinger of 600 frames: ");
-    load(s, queue, capture, pool, &clip, Kind::Stinger)
 }
 
 fn load(
@@ -92,197 +55,128 @@ fn load(
 ) -> Session {
     let r = clips::load(s, queue, capture, pool, clip, kind, RATE);
     let a = r.answer;
-    print::load_answer(a);
-    text(b"\n");
+    sheet::loaded(a);
     r.session
 }
 
-// ---- the calls
+// ---- the other calls
 
 /// One block.
-fn block(v: Visit, pool: &[f32; 16000]) -> Visit {
+fn block(s: Session, queue: &[u64; 40], capture: &[u64; 40], pool: &[f32; 16000]) -> Session {
     let mut out = [0.0; 512];
-    let queue = v.queue;
-    let capture = v.capture;
-    let r = block::block(v.session, &queue, &capture, pool, &mut out);
-    let session = r.session;
-    sheet::line(session, &out);
-    let mut v = v;
-    v.session = session;
-    v
+    let r = block::block(s, queue, capture, pool, &mut out);
+    let after = r.session;
+    sheet::line(after, &out);
+    after
 }
 
-fn blocks(v: Visit, pool: &[f32; 16000], times: u32) -> Visit {
-    let mut v = v;
+pub fn blocks(
+    s: Session,
+    queue: &[u64; 40],
+    capture: &[u64; 40],
+    pool: &[f32; 16000],
+    times: u32,
+) -> Session {
+    let mut s = s;
     let mut left = times;
     while left > 0 {
-        v = block(v, pool);
+        s = block(s, queue, capture, pool);
         left -= 1;
     }
-    v
+    s
 }
 
-fn submit(v: Visit, x: Submission, at: At) -> Visit {
-    let mut queue = v.queue;
-    let mut capture = v.capture;
-    let s = v.session;
-    sheet::submission(x);
+fn submit(
+    s: Session,
+    queue: &mut [u64; 40],
+    capture: &mut [u64; 40],
+    x: Submission,
+    at: At,
+) -> Session {
     sheet::due(s, at);
-    let r = submission::submit(s, &mut queue, &mut capture, x, at);
+    let r = submission::submit(s, queue, capture, x, at);
     let a = r.answer;
     print::submit_answer(a);
-    text(b"\n");
-    let session = r.session;
-    let mut v = v;
-    v.session = session;
-    v.queue = queue;
-    v.capture = capture;
-    v
+    r.session
 }
 
-fn transition(v: Visit, f: SongFrame, at: At) -> Visit {
-    let mut queue = v.queue;
-    let mut capture = v.capture;
-    let s = v.session;
-    text(b"> transition to ");
-    print::number(f.0);
-    sheet::due(s, at);
-    let r = submission::transition(s, &mut queue, &mut capture, f, at);
+fn retire(s: Session, queue: &[u64; 40], capture: &[u64; 40], h: Handle) -> Session {
+    let r = clips::retire(s, queue, capture, h);
     let a = r.answer;
-    print::submit_answer(a);
-    text(b"\n");
-    let session = r.session;
-    let mut v = v;
-    v.session = session;
-    v.queue = queue;
-    v.capture = capture;
-    v
-}
-
-fn retire(v: Visit, h: Handle) -> Visit {
-    let queue = v.queue;
-    let capture = v.capture;
-    text(b"> retire the ");
-    sheet::name(h);
-    let r = clips::retire(v.session, &queue, &capture, h);
-    let a = r.answer;
-    text(b": ");
     print::answer(a);
-    text(b"\n");
-    let session = r.session;
-    let mut v = v;
-    v.session = session;
-    v
+    r.session
 }
 
-fn start_capture(v: Visit) -> Visit {
-    let queue = v.queue;
-    let capture = v.capture;
-    let r = control::start_capture(v.session, &queue, &capture);
+pub fn start_capture(s: Session, queue: &[u64; 40], capture: &[u64; 40]) -> Session {
+    let r = control::start_capture(s, queue, capture);
     let a = r.answer;
-    text(b"> start the capture: ");
-    print::answer(a);
-    text(b"\n");
-    let session = r.session;
-    let mut v = v;
-    v.session = session;
-    v
+    sheet::started(a);
+    r.session
 }
 
-fn stop_capture(v: Visit) -> Visit {
-    let queue = v.queue;
-    let capture = v.capture;
-    let mut list = v.list;
-    let r = control::stop_capture(v.session, &queue, &capture, &mut list);
+pub fn stop_capture(
+    s: Session,
+    queue: &[u64; 40],
+    capture: &[u64; 40],
+    list: &mut [u64; 25],
+) -> Session {
+    let r = control::stop_capture(s, queue, capture, list);
     let a = r.answer;
-    text(b"> stop the capture: ");
-    print::stop_answer(a);
-    text(b"\n");
-    let session = r.session;
-    let mut v = v;
-    v.session = session;
-    v.list = list;
-    v
+    sheet::stopped(a);
+    r.session
 }
 
-fn replay(v: Visit) -> Visit {
-    let mut queue = v.queue;
-    let capture = v.capture;
-    let list = v.list;
-    let r = submission::replay(v.session, &mut queue, &capture, &list);
+pub fn replay(s: Session, queue: &mut [u64; 40], capture: &[u64; 40], list: &[u64; 25]) -> Session {
+    let r = submission::replay(s, queue, capture, list);
     let a = r.answer;
-    text(b"> replay what was captured: ");
-    print::replay_answer(a);
-    text(b"\n");
-    let session = r.session;
-    let mut v = v;
-    v.session = session;
-    v.queue = queue;
-    v
+    sheet::replayed(a);
+    r.session
 }
 
-fn snapshot(v: Visit) -> Visit {
-    let queue = v.queue;
-    let capture = v.capture;
-    let r = control::snapshot(v.session, &queue, &capture);
+pub fn snapshot(s: Session, queue: &[u64; 40], capture: &[u64; 40]) -> PerformanceSnapshot {
+    let r = control::snapshot(s, queue, capture);
     let a = r.answer;
-    text(b"> take a snapshot: ");
-    print::snapshot_answer(a);
-    text(b"\n");
-    taken(v, a)
+    sheet::snapshot(a);
+    taken(a)
 }
 
-/// A visit that keeps a snapshot.
-fn taken(v: Visit, a: SnapshotAnswer) -> Visit {
+/// The snapshot that was taken; an opened session's where none was.
+fn taken(a: SnapshotAnswer) -> PerformanceSnapshot {
     match a {
-        SnapshotAnswer::Taken(x) => {
-            let mut v = v;
-            v.snapshot = x;
-            v
-        }
-        SnapshotAnswer::Refused(_) => v,
+        SnapshotAnswer::Taken(x) => x,
+        SnapshotAnswer::Refused(_) => PerformanceSnapshot {
+            position: SongFrame(0),
+            state: TransportState::Stopped,
+            gain: 1.0,
+            looped: LoopRange::Off,
+        },
     }
 }
 
-fn apply(v: Visit) -> Visit {
-    let queue = v.queue;
-    let capture = v.capture;
-    let x = v.snapshot;
-    let r = control::apply_snapshot(v.session, &queue, &capture, x);
+pub fn apply(
+    s: Session,
+    queue: &[u64; 40],
+    capture: &[u64; 40],
+    x: PerformanceSnapshot,
+) -> Session {
+    let r = control::apply_snapshot(s, queue, capture, x);
     let a = r.answer;
-    text(b"> apply the snapshot: ");
-    print::answer(a);
-    text(b"\n");
-    let session = r.session;
-    let mut v = v;
-    v.session = session;
-    v
-}
-
-fn metrics(v: Visit) -> Visit {
-    let queue = v.queue;
-    let capture = v.capture;
-    let r = control::metrics(v.session, &queue, &capture);
-    let a = r.answer;
-    text(b"> metrics: ");
-    print::metrics_answer(a);
-    text(b"\n");
-    v
+    sheet::applied(a);
+    r.session
 }
 
 /// Does what a cue says.
-pub fn perform(v: Visit, pool: &[f32; 16000], cue: Cue) -> Visit {
+pub fn perform(
+    s: Session,
+    queue: &mut [u64; 40],
+    capture: &mut [u64; 40],
+    pool: &[f32; 16000],
+    cue: Cue,
+) -> Session {
     match cue {
-        Cue::Blocks(n) => blocks(v, pool, n),
-        Cue::Submit(x, at) => submit(v, x, at),
-        Cue::Transition(f, at) => transition(v, f, at),
-        Cue::Retire(h) => retire(v, h),
-        Cue::StartCapture => start_capture(v),
-        Cue::StopCapture => stop_capture(v),
-        Cue::Replay => replay(v),
-        Cue::Snapshot => snapshot(v),
-        Cue::Apply => apply(v),
-        Cue::Metrics => metrics(v),
-        Cue::Rest => v,
+        Cue::Blocks(n) => blocks(s, queue, capture, pool, n),
+        Cue::Submit(x, at) => submit(s, queue, capture, x, at),
+        Cue::Retire(h) => retire(s, queue, capture, h),
+        Cue::Rest => s,
     }
 }

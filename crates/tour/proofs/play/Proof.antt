@@ -6,19 +6,23 @@ use Rattle.tour.proofs.play.Tie as tie
 use Rattle.tour.proofs.play.Reads as reads
 use Rattle.tour.proofs.play.Lts as lts
 use Rattle.tour.proofs.score.next.Reads as next-reads
+use Rattle.tour.proofs.sheet.cue.Reads as cue-reads
 use Rattle.tour.proofs.visit.perform.Reads as perform-reads
 
 abbrev Inv-loop : tie.InvT-loop
-Inv-loop pool scene v₀ i₀ v i = i ≤ 9
+Inv-loop queue₀ capture₀ pool scene s₀ i₀ queue capture s i = i ≤ 6
 
 abbrev μ-loop : tie.MeasureT-loop
-μ-loop pool scene v₀ i₀ v i = 9 - i
+μ-loop queue₀ capture₀ pool scene s₀ i₀ queue capture s i = 6 - i
 
 loop-holds : tie.Need-loop-holds Inv-loop μ-loop
 loop-holds c = search needs
 
 next-requires : tie.Need-next-requires Inv-loop μ-loop
 next-requires c κs = search needs
+
+cue-requires : tie.Need-cue-requires Inv-loop μ-loop
+cue-requires c κs = search needs
 
 perform-requires : tie.Need-perform-requires Inv-loop μ-loop
 perform-requires c κs = search needs
@@ -43,6 +47,7 @@ play-spec =
     μ-loop
     loop-holds
     next-requires
+    cue-requires
     perform-requires
     add-i
     loop-less

@@ -7,10 +7,10 @@ use Rattle.tour.proofs.visit.blocks.Lts as lts
 use Rattle.tour.proofs.visit.block.Reads as block-reads
 
 abbrev Inv-loop : tie.InvT-loop
-Inv-loop pool times v₀ left₀ v left = Unit {0}
+Inv-loop queue capture pool times s₀ left₀ s left = Unit {0}
 
 abbrev μ-loop : tie.MeasureT-loop
-μ-loop pool times v₀ left₀ v left = left
+μ-loop queue capture pool times s₀ left₀ s left = left
 
 loop-holds : tie.Need-loop-holds Inv-loop μ-loop
 loop-holds c = search needs
