@@ -117,12 +117,23 @@ pub fn is_call(l: Line) -> bool {
     l.readable & (l.count == count) & is_asked(l)
 }
 
+/// Its numbers that ask.
+pub fn asking(l: Line) -> Line {
+    l.first(asks(l.words[0]))
+}
+
+/// An opening, a load or a block.
+pub fn takes_pool(l: Line) -> bool {
+    let call = l.words[0];
+    (call == OPEN) | (call == LOAD) | (call == BLOCK)
+}
+
 /// The low 32 bits.
 fn word(n: u64) -> u32 {
     (n % 4294967296) as u32
 }
 
-pub fn handle(slot: u64, serial: u64) -> Handle {
+fn handle(slot: u64, serial: u64) -> Handle {
     Handle {
         slot: word(slot),
         serial: word(serial),
@@ -138,20 +149,39 @@ fn gain(bits: u64) -> f32 {
     0.0
 }
 
-pub fn kind(n: u64, extent: u64) -> Kind {
-    if n == 1 {
-        return Kind::Song(SongFrame(extent));
+/// The kind of a load's line.
+pub fn kind(l: Line) -> Kind {
+    if l.words[1] == 1 {
+        return Kind::Song(SongFrame(l.words[3]));
     }
     Kind::Stinger
 }
 
 /// When a command is due: 1 at once, 2 at a clock frame, 3 at a song frame.
-pub fn due(n: u64, frame: u64) -> At {
+fn due(n: u64, frame: u64) -> At {
     match n {
         2 => At::Frame(ClockFrame(frame)),
         3 => At::Song(SongFrame(frame)),
         _ => At::Immediate,
     }
+}
+
+/// The handle of a retirement's line.
+pub fn retired(l: Line) -> Handle {
+    handle(l.words[1], l.words[2])
+}
+
+/// The handle that a load's line was answered.
+pub fn loaded(l: Line) -> Handle {
+    handle(l.words[5], l.words[6])
+}
+
+pub fn submission_due(l: Line) -> At {
+    due(l.words[7], l.words[8])
+}
+
+pub fn transition_due(l: Line) -> At {
+    due(l.words[2], l.words[3])
 }
 
 /// The command of a submission's line.

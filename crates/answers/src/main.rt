@@ -3,9 +3,9 @@ mod asked;
 mod calls;
 mod lines;
 mod marks;
-mod numbers;
 mod print;
 mod reach;
+mod told;
 mod walk;
 
 use walk::ROOM;

@@ -1,10 +1,7 @@
 //! The walk through the list, and what it tells.
 use crate::asked;
 use crate::calls;
-use crate::calls::FRAMES;
-use crate::calls::Run;
 use crate::calls::SAMPLES;
-use crate::calls::Told;
 use crate::calls::WORDS;
 use crate::lines;
 use crate::lines::Line;
@@ -12,6 +9,10 @@ use crate::print::from;
 use crate::print::number;
 use crate::print::row;
 use crate::print::text;
+use crate::reach;
+use crate::reach::Reached;
+use crate::told::Seat;
+use crate::told::Told;
 
 /// The most bytes that a list has.
 const MOST: usize = 500000;
@@ -19,31 +20,36 @@ const MOST: usize = 500000;
 /// One byte more: a longer list fills it.
 pub const ROOM: usize = 500001;
 
-/// Where the walk stands: our side, the next line's place, the lines read, the differences, and whether it is over.
+/// Where the walk stands: our side and its first queued frame, what was reached, the line that was read, its number and
+/// the next one's place, how many sessions the first line names, the differences, and whether it is over.
 struct Walk {
-    run: Run,
-    next: usize,
+    seat: Seat,
+    first: u64,
+    reached: Reached,
+    asks: Line,
     line: u64,
+    next: usize,
+    named: u64,
     differences: u64,
     over: bool,
 }
 
 impl Walk {
-    fn start() -> Walk {
+    /// After the first line.
+    fn start(l: Line, next: usize) -> Walk {
+        let seat = calls::nobody();
+        let reached = Reached::none();
         Walk {
-            run: calls::start(),
-            next: 0,
-            line: 0,
+            seat,
+            first: 0,
+            reached,
+            asks: l,
+            line: 1,
+            next,
+            named: l.words[0],
             differences: 0,
             over: false,
         }
-    }
-
-    /// A line was read.
-    fn read(mut self, next: usize) -> Walk {
-        self.next = next;
-        self.line = std::num::wrapping_add_u64(self.line, 1);
-        self
     }
 
     /// One difference more.
@@ -55,7 +61,7 @@ impl Walk {
     /// Which session and which line.
     fn place(self) {
         text(b"session ");
-        number(self.run.reached.sessions);
+        number(self.reached.sessions);
         text(b", line ");
         number(self.line);
     }
@@ -68,29 +74,56 @@ impl Walk {
         self.differs()
     }
 
-    /// A call is over: our numbers are the Rust's, or they differ.
-    fn compared(mut self, told: Told, l: Line) -> Walk {
-        let run = told.run;
-        let ours = told.ours;
-        self.run = run;
-        if lines::same(l, ours) {
-            return self;
-        }
-        if self.differences < 10 {
-            self.place();
-            both(l, ours);
-        }
-        self.differs()
-    }
-
     /// The last line: as many sessions as the first line names, and nothing behind it.
-    fn ended(mut self, named: u64, size: usize) -> Walk {
+    fn ended(mut self, size: usize) -> Walk {
         self.over = true;
-        if (self.run.reached.sessions == named) & (self.next == size) {
+        if (self.reached.sessions == self.named) & (self.next == size) {
             return self;
         }
         self.place();
         text(b": not the end that the first line names\n");
+        self.differs()
+    }
+
+    /// The next line: a call, or the end.
+    fn read(mut self, text: &[u8]) -> Walk {
+        let r = lines::at(text, self.next);
+        let l = r.line;
+        self.asks = l;
+        self.next = r.next;
+        self.line = std::num::wrapping_add_u64(self.line, 1);
+        if l.is_only(0) {
+            return self.ended(text.len());
+        }
+        if asked::is_call(l) {
+            return self;
+        }
+        self.unreadable()
+    }
+
+    /// A call is over: our side stands as it left it.
+    fn called(mut self, told: Told, first: u64) -> Walk {
+        let was = self.reached;
+        let old = self.seat;
+        let seat = told.seat;
+        let ours = told.ours;
+        let reached = was.by(ours, old.session, self.first, seat.session, first);
+        self.reached = reached;
+        self.seat = seat;
+        self.first = first;
+        self.compared(ours)
+    }
+
+    /// Our numbers are the Rust's, or they differ.
+    fn compared(self, ours: Line) -> Walk {
+        let rust = self.asks;
+        if lines::same(rust, ours) {
+            return self;
+        }
+        if self.differences < 10 {
+            self.place();
+            both(rust, ours);
+        }
         self.differs()
     }
 }
@@ -105,120 +138,108 @@ fn both(rust: Line, ours: Line) {
     text(b"\n");
 }
 
-/// A call that changes neither queue nor capture.
-fn control(
-    run: Run,
-    queue: &[u64; WORDS],
-    capture: &[u64; WORDS],
-    list: &mut [u64; WORDS],
-    l: Line,
-) -> Told {
+/// A call that changes no store.
+fn look(seat: Seat, queue: &[u64; WORDS], capture: &[u64; WORDS], l: Line) -> Told {
     let call = l.words[0];
-    if call == asked::START {
-        return calls::start_capture(run, queue, capture, l);
+    if call == asked::RETIRE {
+        return calls::retire(seat, queue, capture, l);
     }
-    if call == asked::STOP {
-        return calls::stop_capture(run, queue, capture, list, l);
+    if call == asked::START {
+        return calls::start_capture(seat, queue, capture, l);
     }
     if call == asked::SNAPSHOT {
-        return calls::snapshot(run, queue, capture, l);
+        return calls::snapshot(seat, queue, capture, l);
     }
-    calls::apply(run, queue, capture, l)
+    calls::apply(seat, queue, capture, l)
 }
 
-/// A call on clips.
-fn clip(
-    run: Run,
+/// A call that is lent the pool.
+fn sound(
+    seat: Seat,
     queue: &[u64; WORDS],
     capture: &[u64; WORDS],
     pool: &mut [f32; SAMPLES],
-    left: &mut [u64; FRAMES],
     l: Line,
 ) -> Told {
     let call = l.words[0];
     if call == asked::OPEN {
-        return calls::open(run, queue, capture, pool, l);
+        return calls::open(queue, capture, pool, l);
     }
     if call == asked::LOAD {
-        return calls::load(run, queue, capture, pool, left, l);
+        return calls::load(seat, queue, capture, pool, l);
     }
-    calls::retire(run, queue, capture, left, l)
+    calls::block(seat, queue, capture, pool, l)
+}
+
+/// A call that is not.
+fn plan(
+    seat: Seat,
+    queue: &mut [u64; WORDS],
+    capture: &mut [u64; WORDS],
+    list: &mut [u64; WORDS],
+    l: Line,
+) -> Told {
+    let call = l.words[0];
+    if call == asked::SUBMIT {
+        return calls::submit(seat, queue, capture, l);
+    }
+    if call == asked::TRANSITION {
+        return calls::transition(seat, queue, capture, l);
+    }
+    if call == asked::STOP {
+        return calls::stop_capture(seat, queue, capture, list, l);
+    }
+    if call == asked::REPLAY {
+        return calls::replay(seat, queue, capture, list, l);
+    }
+    look(seat, queue, capture, l)
 }
 
 /// The call that a line asks for.
 fn call(
-    run: Run,
+    seat: Seat,
     queue: &mut [u64; WORDS],
     capture: &mut [u64; WORDS],
     list: &mut [u64; WORDS],
     pool: &mut [f32; SAMPLES],
-    left: &mut [u64; FRAMES],
     l: Line,
 ) -> Told {
-    let call = l.words[0];
-    if call <= asked::RETIRE {
-        return clip(run, queue, capture, pool, left, l);
+    if asked::takes_pool(l) {
+        return sound(seat, queue, capture, pool, l);
     }
-    if call == asked::SUBMIT {
-        return calls::submit(run, queue, capture, l);
-    }
-    if call == asked::TRANSITION {
-        return calls::transition(run, queue, capture, l);
-    }
-    if call == asked::BLOCK {
-        return calls::block(run, queue, capture, pool, l);
-    }
-    if call == asked::REPLAY {
-        return calls::replay(run, queue, capture, list, l);
-    }
-    control(run, queue, capture, list, l)
+    plan(seat, queue, capture, list, l)
 }
 
 /// One line.
 fn turn(
     w: Walk,
     text: &[u8],
-    named: u64,
     queue: &mut [u64; WORDS],
     capture: &mut [u64; WORDS],
     list: &mut [u64; WORDS],
     pool: &mut [f32; SAMPLES],
-    left: &mut [u64; FRAMES],
 ) -> Walk {
-    let r = lines::at(text, w.next);
-    let l = r.line;
-    let here = w.read(r.next);
-    if l.is_only(0) {
-        return here.ended(named, text.len());
+    let here = w.read(text);
+    if here.over {
+        return here;
     }
-    if !asked::is_call(l) {
-        return here.unreadable();
-    }
-    let run = here.run;
-    let told = call(run, queue, capture, list, pool, left, l);
-    here.compared(told, l)
+    let seat = here.seat;
+    let l = here.asks;
+    let told = call(seat, queue, capture, list, pool, l);
+    let first = reach::first(told.seat.session, queue);
+    here.called(told, first)
 }
 
 /// Every line after the first.
-fn rest(w: Walk, text: &[u8], named: u64) -> Walk {
+fn rest(w: Walk, text: &[u8]) -> Walk {
     let mut queue = [0; WORDS];
     let mut capture = [0; WORDS];
     let mut list = [0; WORDS];
     let mut pool = [0.0; SAMPLES];
-    let mut left = [0; FRAMES];
     let mut w = w;
     let mut turns = MOST;
     while turns > 0 {
-        w = turn(
-            w,
-            text,
-            named,
-            &mut queue,
-            &mut capture,
-            &mut list,
-            &mut pool,
-            &mut left,
-        );
+        w = turn(w, text, &mut queue, &mut capture, &mut list, &mut pool);
         if w.over {
             return w;
         }
@@ -229,14 +250,13 @@ fn rest(w: Walk, text: &[u8], named: u64) -> Walk {
 
 /// The first line has the number of sessions.
 fn all(text: &[u8]) -> Walk {
-    let first = lines::at(text, 0);
-    let l = first.line;
-    let named = l.words[0];
-    let w = Walk::start().read(first.next);
-    if !l.is_only(named) {
-        return w.unreadable();
+    let r = lines::at(text, 0);
+    let l = r.line;
+    let w = Walk::start(l, r.next);
+    if l.is_only(l.words[0]) {
+        return rest(w, text);
     }
-    rest(w, text, named)
+    w.unreadable()
 }
 
 /// The list is the first `count` of these bytes.
@@ -247,7 +267,7 @@ pub fn list(bytes: &[u8; ROOM], count: usize) {
     }
     let whole: &[u8] = bytes;
     let w = all(&whole[..count]);
-    let run = w.run;
-    run.reached.told();
+    let reached = w.reached;
+    reached.print();
     row(b"differences", w.differences);
 }

@@ -5,17 +5,11 @@ use borrow.Author.Needs.{needs}
 use Rattle.answers.proofs.calls.open_song.Statement.{statement}
 use Rattle.answers.proofs.calls.open_song.Tie as tie
 
-element-copy-out-places : tie.Need-element-copy-out-places
-element-copy-out-places c = search needs
-
 places-requires : tie.Need-places-requires
 places-requires c κs = search needs
 
-element-copy-out-t11 : tie.Need-element-copy-out-t11
-element-copy-out-t11 c = search needs
-
 slice-aggregate-open : tie.Need-slice-aggregate-open
-slice-aggregate-open c = sym (length-take-le _ _ (c .before .before .before .places .ensures))
+slice-aggregate-open c = sym (length-take-le _ _ (c .before .before .places .ensures))
 
 open-requires : tie.Need-open-requires
 open-requires c κs = search needs
@@ -30,9 +24,7 @@ pub open-song-spec : {M : Type 1} → statement M
 open-song-spec =
     tie.close
     (tie.spec
-    element-copy-out-places
     places-requires
-    element-copy-out-t11
     slice-aggregate-open
     open-requires
     same-length

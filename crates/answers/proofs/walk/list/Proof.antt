@@ -20,8 +20,8 @@ slice-aggregate-all c = sym (length-take-le _ _ (search needs))
 all-requires : tie.Need-all-requires
 all-requires c κs = search needs
 
-told-requires : tie.Need-told-requires
-told-requires c κs = search needs
+print-requires : tie.Need-print-requires
+print-requires c κs = search needs
 
 slice-aggregate-row : tie.Need-slice-aggregate-row
 slice-aggregate-row c = search needs
@@ -41,7 +41,7 @@ list-spec =
     returns
     slice-aggregate-all
     all-requires
-    told-requires
+    print-requires
     slice-aggregate-row
     row-requires
     returns-2)

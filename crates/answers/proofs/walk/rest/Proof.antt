@@ -4,12 +4,10 @@ use Rattle.answers.proofs.walk.rest.Statement.{statement}
 use Rattle.answers.proofs.walk.rest.Tie as tie
 
 abbrev Inv-loop : tie.InvT-loop
-Inv-loop text named queue₀ capture₀ list₀ pool₀ left₀ w₀ turns₀ queue capture list pool left w turns =
-    Unit {0}
+Inv-loop text queue₀ capture₀ list₀ pool₀ w₀ turns₀ queue capture list pool w turns = Unit {0}
 
 abbrev μ-loop : tie.MeasureT-loop
-μ-loop text named queue₀ capture₀ list₀ pool₀ left₀ w₀ turns₀ queue capture list pool left w turns =
-    turns
+μ-loop text queue₀ capture₀ list₀ pool₀ w₀ turns₀ queue capture list pool w turns = turns
 
 loop-holds : tie.Need-loop-holds Inv-loop μ-loop
 loop-holds c = search needs
