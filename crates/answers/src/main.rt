@@ -3,8 +3,8 @@ mod asked;
 mod calls;
 mod lines;
 mod marks;
-mod print;
 mod reach;
+mod rows;
 mod told;
 mod walk;
 

@@ -1,7 +1,7 @@
 //! What the list reaches, read off our session before and after a call.
 use crate::asked;
 use crate::lines::Line;
-use crate::print::row;
+use crate::rows::row;
 use counts::Handle;
 use session::Session;
 use stage::Tail;

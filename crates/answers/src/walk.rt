@@ -5,14 +5,14 @@ use crate::calls::SAMPLES;
 use crate::calls::WORDS;
 use crate::lines;
 use crate::lines::Line;
-use crate::print::from;
-use crate::print::number;
-use crate::print::row;
-use crate::print::text;
 use crate::reach;
 use crate::reach::Reached;
+use crate::rows::from;
+use crate::rows::row;
 use crate::told::Seat;
 use crate::told::Told;
+use print::number;
+use print::text;
 
 /// The most bytes that a list has.
 const MOST: usize = 500000;

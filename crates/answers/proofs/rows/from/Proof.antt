@@ -1,8 +1,8 @@
 -- Safe, and ends. Assumes nothing.
 use Prim.Native.Nat.{_-_}
 use borrow.Author.Needs.{needs}
-use Rattle.answers.proofs.print.from.Statement.{statement}
-use Rattle.answers.proofs.print.from.Tie as tie
+use Rattle.answers.proofs.rows.from.Statement.{statement}
+use Rattle.answers.proofs.rows.from.Tie as tie
 
 abbrev Inv-loop : tie.InvT-loop
 Inv-loop place l i₀ t5 i = Unit {0}

@@ -1,14 +1,7 @@
-//! Writes text and numbers.
+//! Writes counts and lines.
 use crate::lines::Line;
-use libc::STDOUT_FILENO;
-
-pub fn text(s: &[u8]) {
-    io::write_all(STDOUT_FILENO, s);
-}
-
-pub fn number(n: u64) {
-    io::print_decimal(STDOUT_FILENO, n);
-}
+use print::number;
+use print::text;
 
 /// A count on a line of its own.
 pub fn row(name: &[u8], n: u64) {
