@@ -103,8 +103,20 @@ fn pool() -> [f32; 2400] {
     all
 }
 
-/// A session at clock 0 over those clips, with `queued` records in its queue.
+/// A session at clock 0 over those clips, with `queued` records in its queue and no voices.
 fn session(
+    song: Handle,
+    state: TransportState,
+    looped: LoopRange,
+    master: f32,
+    queued: usize,
+) -> Session {
+    let none = Voices::none();
+    sounding(song, state, looped, master, none, queued)
+}
+
+/// Such a session with voices.
+fn sounding(
     song: Handle,
     state: TransportState,
     looped: LoopRange,
@@ -178,53 +190,56 @@ fn run(s: Session, queue: &[u64; 20], pool: &[f32], out: &mut [f32]) -> Answered
 
 // ---- the numbers
 
-/// Two commands at 8, clock 0: a block of 8 executes one, of 0 none, then of 1 the other first. A block of 9 executes both.
-fn two_at_8(pool: &[f32]) {
-    let mut queue = [0; 20];
-    timeline::put_row(&mut queue, 0, row(8, 2, PAUSE, 0));
-    timeline::put_row(&mut queue, 1, row(8, 1, PLAY, 0));
-    let s = session(
-        LONG,
-        TransportState::Stopped,
-        LoopRange::Off,
-        1.0,
-        Voices::none(),
-        2,
-    );
+/// A block whose answer is told, and the session after it.
+fn run_told(s: Session, queue: &[u64; 20], pool: &[f32], out: &mut [f32]) -> Session {
+    let r = run(s, queue, pool, out);
+    stands(r);
+    r.session
+}
+
+/// Play and Pause at 8, for a session at rest.
+fn put_two(queue: &mut [u64; 20]) -> Session {
+    timeline::put_row(queue, 0, row(8, 2, PAUSE, 0));
+    timeline::put_row(queue, 1, row(8, 1, PLAY, 0));
+    session(LONG, TransportState::Stopped, LoopRange::Off, 1.0, 2)
+}
+
+/// A block of 8 executes one, of 0 none, then of 1 the other first.
+fn eight_none_one(s: Session, queue: &[u64; 20], pool: &[f32]) {
     let mut eight = [0.0; 16];
     let mut none = [0.0; 0];
     let mut one = [0.0; 2];
-    let mut nine = [0.0; 18];
-    text(b"two commands at 8, clock 0\n  a block of 8: ");
-    let first = run(s, &queue, pool, &mut eight);
-    stands(first);
+    let first = run_told(s, queue, pool, &mut eight);
     text(b"  then of 0: ");
-    let second = run(first.session, &queue, pool, &mut none);
-    stands(second);
+    let second = run_told(first, queue, pool, &mut none);
     text(b"  then of 1: ");
-    let third = run(second.session, &queue, pool, &mut one);
-    stands(third);
+    run_told(second, queue, pool, &mut one);
+}
+
+/// A block of 9 executes both.
+fn nine(s: Session, queue: &[u64; 20], pool: &[f32]) {
+    let mut nine = [0.0; 18];
     text(b"  a block of 9: ");
-    let whole = run(s, &queue, pool, &mut nine);
-    stands(whole);
+    run_told(s, queue, pool, &mut nine);
+}
+
+/// Two commands at 8, clock 0.
+fn two_at_8(pool: &[f32]) {
+    let mut queue = [0; 20];
+    let s = put_two(&mut queue);
+    text(b"two commands at 8, clock 0\n  a block of 8: ");
+    eight_none_one(s, &queue, pool);
+    nine(s, &queue, pool);
 }
 
 /// Song (0.5, -0.5), (0.25, 0.25), length 2, Play at 0, block of 4: those pairs, four zeros; position 2, Stopped.
 fn two_frames(pool: &[f32]) {
     let mut queue = [0; 20];
     timeline::put_row(&mut queue, 0, row(0, 1, PLAY, 0));
-    let s = session(
-        SHORT,
-        TransportState::Stopped,
-        LoopRange::Off,
-        1.0,
-        Voices::none(),
-        1,
-    );
+    let s = session(SHORT, TransportState::Stopped, LoopRange::Off, 1.0, 1);
     let mut out = [0.0; 8];
     text(b"a song of two frames, Play at 0, a block of 4\n  ");
-    let four = run(s, &queue, pool, &mut out);
-    stands(four);
+    run_told(s, &queue, pool, &mut out);
     text(b" ");
     samples(&out, 0, 8);
     text(b"\n");
@@ -234,14 +249,7 @@ fn two_frames(pool: &[f32]) {
 fn gain_zero(pool: &[f32]) {
     let mut queue = [0; 20];
     timeline::put_row(&mut queue, 0, row(0, 1, GAIN, 0));
-    let s = session(
-        LONG,
-        TransportState::Playing,
-        LoopRange::Off,
-        1.0,
-        Voices::none(),
-        1,
-    );
+    let s = session(LONG, TransportState::Playing, LoopRange::Off, 1.0, 1);
     let mut out = [0.0; 2];
     text(b"Gain 0 at rest, 0.5 sounds as\n ");
     run(s, &queue, pool, &mut out);
@@ -253,18 +261,10 @@ fn gain_zero(pool: &[f32]) {
 fn loop_wraps(pool: &[f32]) {
     let queue = [0; 20];
     let looped = LoopRange::Range(SongFrame(2), SongFrame(4));
-    let s = session(
-        LONG,
-        TransportState::Playing,
-        looped,
-        1.0,
-        Voices::none(),
-        0,
-    );
+    let s = session(LONG, TransportState::Playing, looped, 1.0, 0);
     let mut out = [0.0; 14];
     text(b"loop 2..4 from 0, a block of 7\n  ");
-    let seven = run(s, &queue, pool, &mut out);
-    stands(seven);
+    run_told(s, &queue, pool, &mut out);
     text(b" ");
     samples(&out, 0, 14);
     text(b"\n");
@@ -274,20 +274,12 @@ fn loop_wraps(pool: &[f32]) {
 fn swap_tail(pool: &[f32]) {
     let mut queue = [0; 20];
     timeline::put_row(&mut queue, 0, row(0, 1, SWAP, 1));
-    let s = session(
-        LONG,
-        TransportState::Playing,
-        LoopRange::Off,
-        0.0,
-        Voices::none(),
-        1,
-    );
+    let s = session(LONG, TransportState::Playing, LoopRange::Off, 0.0, 1);
     let mut out = [0.0; 2050];
     text(
         b"a swap with the master at 0, a block of 1,025: the tail's frames 1, 1,023, 1,024 and the one after\n  ",
     );
-    let all = run(s, &queue, pool, &mut out);
-    stands(all);
+    run_told(s, &queue, pool, &mut out);
     text(b" ");
     samples(&out, 0, 2);
     text(b"\n ");
@@ -328,7 +320,7 @@ fn one_frame(s: Session, pool: &[f32]) -> Session {
 
 /// Sixteen voices that end on different frames: one leaves after each.
 fn voices_end(pool: &[f32]) {
-    let mut s = session(
+    let mut s = sounding(
         LONG,
         TransportState::Stopped,
         LoopRange::Off,

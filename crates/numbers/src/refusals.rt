@@ -7,6 +7,7 @@ use counts::ClockFrame;
 use counts::Handle;
 use counts::SongFrame;
 use print::text;
+use session::Answered;
 use session::Session;
 use stage::Settings;
 use submission::SubmitAnswered;
@@ -64,6 +65,14 @@ fn load_forty(s: Session, queue: &[u64], capture: &[u64], pool: [f32; 80]) {
     let click = [0.25, 0.25];
     let r = clips::load(s, queue, capture, &mut lent, &click, Kind::Stinger, RATE);
     load_told(s, r, &lent, &pool);
+}
+
+/// A call that is lent no store to write: its answer, and whether the session is as it was.
+fn answer_told(s: Session, r: Answered) {
+    let a = r.answer;
+    let after = r.session;
+    print::answer(a);
+    crate::told::kept(crate::same::session(s, after));
 }
 
 /// A submission: its answer, and whether session, queue and capture are as they were.
@@ -126,7 +135,7 @@ pub fn full_told(
 
 // ---- the numbers
 
-/// '1: session or its stores not well formed.' '2: lent pool has another length.'
+/// '1: session or its stores not well formed.'
 fn stores() {
     let queue = [0; 10];
     let short = [0; 5];
@@ -139,6 +148,14 @@ fn stores() {
     let after = r.session;
     print::metrics_answer(a);
     crate::told::kept(crate::same::session(s, after));
+}
+
+/// '2: lent pool has another length.'
+fn pools() {
+    let queue = [0; 10];
+    let capture = [0; 5];
+    let mut pool = [0.0; 16];
+    let s = opened(SMALL, &queue, &capture, &mut pool);
     text(b"  load, lent a pool of 7 frames where 8 are named: ");
     let mut other = [0.0; 14];
     let was = other;
@@ -261,6 +278,18 @@ fn room() {
     load(s, &queue, &capture, pool, &long, RATE);
 }
 
+/// A load of a song of 44,100.
+fn load_slow(
+    s: Session,
+    queue: &[u64; 10],
+    capture: &[u64; 5],
+    pool: &mut [f32; 16],
+) -> LoadAnswered {
+    let slow = [0.25, 0.25];
+    let lasts = Kind::Song(SongFrame(1));
+    clips::load(s, queue, capture, pool, &slow, lasts, 44100)
+}
+
 /// '11: stale handle.' '12: song where a stinger is due, or the reverse.' '13: clip rate is not the session's.'
 /// '14: gain not finite; stinger gain above 16.'
 fn handles() {
@@ -269,12 +298,13 @@ fn handles() {
     let mut pool = [0.0; 16];
     let first = opened(SMALL, &queue, &capture, &mut pool);
     let song = first.song();
-    let slow = [0.25, 0.25];
-    let lasts = Kind::Song(SongFrame(1));
-    let r = clips::load(first, &queue, &capture, &mut pool, &slow, lasts, 44100);
+    let r = load_slow(first, &queue, &capture, &mut pool);
     let a = r.answer;
     let other = handle_of(a);
-    let s = r.session;
+    handles_told(r.session, queue, capture, song, other);
+}
+
+fn handles_told(s: Session, queue: [u64; 10], capture: [u64; 5], song: Handle, other: Handle) {
     let unknown = Handle { slot: 0, serial: 7 };
     text(b"  a swap to slot 0 serial 7, which was never given: ");
     submit(s, queue, capture, Submission::Swap(unknown));
@@ -300,10 +330,13 @@ fn snapshot_gain() {
     };
     text(b"  a snapshot of gain 2.5: ");
     let r = control::apply_snapshot(s, &queue, &capture, x);
-    let a = r.answer;
-    let after = r.session;
-    print::answer(a);
-    crate::told::kept(crate::same::session(s, after));
+    answer_told(s, r);
+}
+
+/// A submission at once that is not told.
+fn queue_one(s: Session, queue: &mut [u64; 10], capture: &mut [u64; 5], x: Submission) -> Session {
+    let r = submission::submit(s, queue, capture, x, At::Immediate);
+    r.session
 }
 
 /// '15: queue full.'
@@ -312,16 +345,24 @@ fn queue_full() {
     let mut capture = [0; 5];
     let mut pool = [0.0; 16];
     let s = opened(SMALL, &queue, &capture, &mut pool);
-    let now = At::Immediate;
-    let one = submission::submit(s, &mut queue, &mut capture, Submission::Play, now);
-    let first = one.session;
-    let two = submission::submit(first, &mut queue, &mut capture, Submission::Pause, now);
-    let full = two.session;
-    let q = queue;
-    let c = capture;
+    let one = queue_one(s, &mut queue, &mut capture, Submission::Play);
+    let full = queue_one(one, &mut queue, &mut capture, Submission::Pause);
     text(b"  a third command in a queue of 2: ");
-    let r = submission::submit(full, &mut queue, &mut capture, Submission::Play, now);
-    full_told(full, r, &queue, &q, &capture, &c);
+    submit_full(full, queue, capture);
+}
+
+/// A Play that finds the queue of 2 full.
+fn submit_full(s: Session, queue: [u64; 10], capture: [u64; 5]) {
+    let mut lent = queue;
+    let mut also = capture;
+    let r = submission::submit(s, &mut lent, &mut also, Submission::Play, At::Immediate);
+    full_told(s, r, &lent, &queue, &also, &capture);
+}
+
+/// A session whose capture of 1 is on, and full.
+fn capture_one(s: Session, queue: &mut [u64; 10], capture: &mut [u64; 5]) -> Session {
+    let on = control::start_capture(s, queue, capture);
+    queue_one(on.session, queue, capture, Submission::Play)
 }
 
 /// '16: capture on and full.'
@@ -330,10 +371,7 @@ fn captured() {
     let mut capture = [0; 5];
     let mut pool = [0.0; 16];
     let s = opened(SMALL, &queue, &capture, &mut pool);
-    let on = control::start_capture(s, &queue, &capture);
-    let now = At::Immediate;
-    let one = submission::submit(on.session, &mut queue, &mut capture, Submission::Play, now);
-    let full = one.session;
+    let full = capture_one(s, &mut queue, &mut capture);
     text(b"  a second command in a capture of 1: ");
     submit(full, queue, capture, Submission::Pause);
 }
@@ -412,10 +450,7 @@ fn song_held() {
     let s = opened(SMALL, &queue, &capture, &mut pool);
     text(b"  retire of the song: ");
     let r = clips::retire(s, &queue, &capture, s.song());
-    let a = r.answer;
-    let after = r.session;
-    print::answer(a);
-    crate::told::kept(crate::same::session(s, after));
+    answer_told(s, r);
 }
 
 /// '20: list for captured records too short.'
@@ -424,18 +459,19 @@ fn list_short() {
     let mut capture = [0; 5];
     let mut pool = [0.0; 16];
     let s = opened(SMALL, &queue, &capture, &mut pool);
-    let on = control::start_capture(s, &queue, &capture);
-    let now = At::Immediate;
-    let one = submission::submit(on.session, &mut queue, &mut capture, Submission::Play, now);
-    let full = one.session;
+    let full = capture_one(s, &mut queue, &mut capture);
+    text(b"  stop capture of 1 record into a list of 4 words: ");
+    stop_short(full, &queue, &capture);
+}
+
+fn stop_short(s: Session, queue: &[u64; 10], capture: &[u64; 5]) {
     let mut list = [7; 4];
     let was = list;
-    text(b"  stop capture of 1 record into a list of 4 words: ");
-    let r = control::stop_capture(full, &queue, &capture, &mut list);
+    let r = control::stop_capture(s, queue, capture, &mut list);
     let a = r.answer;
     let after = r.session;
     print::stop_answer(a);
-    crate::told::kept(crate::same::session(full, after) & crate::same::words(&list, &was));
+    crate::told::kept(crate::same::session(s, after) & crate::same::words(&list, &was));
 }
 
 fn row(at: u64, kind: u64) -> Row {
@@ -448,6 +484,27 @@ fn row(at: u64, kind: u64) -> Row {
     }
 }
 
+/// Four records, the second of kind 11.
+fn put_four(list: &mut [u64; 20]) {
+    timeline::put_row(list, 0, row(8, 1));
+    timeline::put_row(list, 1, row(8, 11));
+    timeline::put_row(list, 2, row(4, 2));
+    timeline::put_row(list, 3, row(2, 3));
+}
+
+fn replay(s: Session, queue: &mut [u64; 10], capture: &[u64; 5], list: &[u64; 20]) -> Session {
+    let r = submission::replay(s, queue, capture, list);
+    let a = r.answer;
+    print::replay_answer(a);
+    r.session
+}
+
+fn metrics(s: Session, queue: &[u64; 10], capture: &[u64; 5]) {
+    let r = control::metrics(s, queue, capture);
+    let a = r.answer;
+    print::metrics_answer(a);
+}
+
 /// '21: replayed record unreadable (seen only as a skip).' 'It reports taken, queue-full and otherwise skipped.'
 fn unreadable() {
     let mut queue = [0; 10];
@@ -455,25 +512,18 @@ fn unreadable() {
     let mut pool = [0.0; 16];
     let s = opened(SMALL, &queue, &capture, &mut pool);
     let mut list = [0; 20];
-    timeline::put_row(&mut list, 0, row(8, 1));
-    timeline::put_row(&mut list, 1, row(8, 11));
-    timeline::put_row(&mut list, 2, row(4, 2));
-    timeline::put_row(&mut list, 3, row(2, 3));
+    put_four(&mut list);
     text(b"  replay of 4 records into a queue of 2, the second of kind 11, which is 21: ");
-    let r = submission::replay(s, &mut queue, &capture, &list);
-    let a = r.answer;
-    let after = r.session;
-    print::replay_answer(a);
+    let after = replay(s, &mut queue, &capture, &list);
     text(b"\n    then metrics: ");
-    let m = control::metrics(after, &queue, &capture);
-    let b = m.answer;
-    print::metrics_answer(b);
+    metrics(after, &queue, &capture);
     text(b"\n");
 }
 
 pub fn all() {
     text(b"each refusal number, at a call that meets it\n");
     stores();
+    pools();
     odd();
     clock();
     samples();

@@ -13,8 +13,8 @@ abbrev μ-loop : tie.MeasureT-loop
 sixteen-requires : tie.Need-sixteen-requires Inv-loop μ-loop
 sixteen-requires c κs = search needs
 
-session-requires : tie.Need-session-requires Inv-loop μ-loop
-session-requires c κs = search needs
+sounding-requires : tie.Need-sounding-requires Inv-loop μ-loop
+sounding-requires c κs = search needs
 
 slice-aggregate-text : tie.Need-slice-aggregate-text Inv-loop μ-loop
 slice-aggregate-text c = search needs
@@ -47,7 +47,7 @@ voices-end-spec =
     Inv-loop
     μ-loop
     sixteen-requires
-    session-requires
+    sounding-requires
     slice-aggregate-text
     text-requires
     loop-holds
