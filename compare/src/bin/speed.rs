@@ -1,9 +1,8 @@
 //! How fast the calls are, beside tono's own code in the same run: `cargo run --release --bin speed`.
 //!
 //! Both sides play the same clips. A case is timed in rounds, ours and tono's by turns; a run's time is the median of
-//! its rounds, and the table gives the median ratio of several runs with the least and the greatest. The proved
-//! calls check the session and its stores on every call; a block of no frames is that check alone, so that a block
-//! less a block of no frames is the block without it.
+//! its rounds, and the table gives the median of several runs, and the least and the greatest ratio. The proved calls
+//! check the session and its stores every time; a block of no frames is that check alone, timed in the same round.
 
 use std::hint::black_box;
 use std::time::Instant;
@@ -148,11 +147,41 @@ impl Both<'_> {
     }
 }
 
-/// Nanoseconds of ours and of tono's.
+/// Nanoseconds of ours, of the check in it, and of tono's.
 #[derive(Clone, Copy)]
 struct Time {
     ours: f64,
+    check: f64,
     tono: f64,
+}
+
+impl Time {
+    /// The median of each.
+    fn median(times: &[Time]) -> Time {
+        Time {
+            ours: median(times, |time| time.ours),
+            check: median(times, |time| time.check),
+            tono: median(times, |time| time.tono),
+        }
+    }
+
+    fn ratio(&self) -> f64 {
+        self.ours / self.tono
+    }
+
+    fn unchecked(&self) -> f64 {
+        (self.ours - self.check) / self.tono
+    }
+}
+
+fn sorted(times: &[Time], of: impl Fn(&Time) -> f64) -> Vec<f64> {
+    let mut values: Vec<f64> = times.iter().map(of).collect();
+    values.sort_by(f64::total_cmp);
+    values
+}
+
+fn median(times: &[Time], of: impl Fn(&Time) -> f64) -> f64 {
+    sorted(times, of)[times.len() / 2]
 }
 
 fn nanoseconds<T>(of: impl FnOnce() -> T) -> f64 {
@@ -161,33 +190,27 @@ fn nanoseconds<T>(of: impl FnOnce() -> T) -> f64 {
     from.elapsed().as_nanos() as f64
 }
 
-fn median(mut of: Vec<f64>) -> f64 {
-    of.sort_by(f64::total_cmp);
-    of[of.len() / 2]
-}
-
 /// A run of one case: the median of its rounds.
 fn run(rounds: usize, mut round: impl FnMut() -> Time) -> Time {
-    let rounds: Vec<Time> = (0..rounds).map(|_| round()).collect();
-    Time {
-        ours: median(rounds.iter().map(|time| time.ours).collect()),
-        tono: median(rounds.iter().map(|time| time.tono).collect()),
-    }
+    let times: Vec<Time> = (0..rounds).map(|_| round()).collect();
+    Time::median(&times)
 }
 
 fn line(name: &str, of: impl Fn() -> Time) {
     let runs: Vec<Time> = (0..RUNS).map(|_| of()).collect();
-    let mut ratios: Vec<f64> = runs.iter().map(|time| time.ours / time.tono).collect();
-    ratios.sort_by(f64::total_cmp);
-    let ours = median(runs.iter().map(|time| time.ours).collect());
-    let tono = median(runs.iter().map(|time| time.tono).collect());
+    let time = Time::median(&runs);
+    let spread = |of: fn(&Time) -> f64| {
+        let ratios = sorted(&runs, of);
+        let (least, greatest) = (ratios[0], ratios[RUNS - 1]);
+        format!("{:.2} ({least:.2} to {greatest:.2})", ratios[RUNS / 2])
+    };
     println!(
-        "| {name} | {:.2} | {:.2} | {:.2} | {:.2} to {:.2} |",
-        ours / 1000.0,
-        tono / 1000.0,
-        ratios[RUNS / 2],
-        ratios[0],
-        ratios[RUNS - 1]
+        "| {name} | {:.2} | {:.2} | {:.2} | {} | {} |",
+        time.ours / 1000.0,
+        time.check / 1000.0,
+        time.tono / 1000.0,
+        spread(Time::ratio),
+        spread(Time::unchecked)
     );
 }
 
@@ -199,8 +222,8 @@ enum During {
     Swap,
 }
 
-/// One block of so many frames; ours without the check if `checked` is false.
-fn block(frames: usize, voices: usize, waiting: usize, during: During, checked: bool) -> Time {
+/// One block of so many frames.
+fn block(frames: usize, voices: usize, waiting: usize, during: During) -> Time {
     let mut stores = Stores::new();
     let mut both = Both::playing(&mut stores);
     both.wait(waiting);
@@ -221,12 +244,10 @@ fn block(frames: usize, voices: usize, waiting: usize, during: During, checked: 
                 both.block(&mut [0.0; 2]);
             }
         }
-        let ours = nanoseconds(|| both.ours.block(black_box(&mut out)));
-        let check = nanoseconds(|| both.ours.block(black_box(&mut [])));
-        let tono = nanoseconds(|| both.tono.fill(black_box(&mut out)));
         Time {
-            ours: if checked { ours } else { ours - check },
-            tono,
+            ours: nanoseconds(|| both.ours.block(black_box(&mut out))),
+            check: nanoseconds(|| both.ours.block(black_box(&mut []))),
+            tono: nanoseconds(|| both.tono.fill(black_box(&mut out))),
         }
     })
 }
@@ -249,8 +270,14 @@ fn submission() -> Time {
                 .expect("the queue has room");
         }
     });
+    let check = nanoseconds(|| {
+        for _ in frames() {
+            black_box(both.ours.block(&mut [])).expect("the block is made");
+        }
+    });
     Time {
         ours: ours / 64.0,
+        check: check / 64.0,
         tono: tono / 64.0,
     }
 }
@@ -271,6 +298,7 @@ fn load() -> Time {
         let mut loaded = None;
         let time = Time {
             ours: nanoseconds(|| loaded = Some(ours.load_stinger(black_box(clip)))),
+            check: nanoseconds(|| ours.block(black_box(&mut []))),
             tono: nanoseconds(|| {
                 tono.submit(Submission::Stinger(stinger.clone(), 1.0), At::Frame(LATER))
             }),
@@ -289,38 +317,37 @@ fn voiced(voices: usize) -> String {
 }
 
 fn main() {
-    println!("| case | ours, µs | tono, µs | ratio | least to greatest |\n|---|---|---|---|---|");
+    println!(
+        "| case | ours, µs | its check, µs | tono, µs | ratio | ratio without the check |\n|---|---|---|---|---|---|"
+    );
     for (name, during) in [
         ("at rest", During::Rest),
         ("during a gain ride", During::Gain),
         ("during a swap", During::Swap),
     ] {
         for voices in [0, 1, 16] {
-            line(
-                &format!("a block of 512 frames, {}, {name}", voiced(voices)),
-                || block(512, voices, 0, during, true),
-            );
-            line("the same without the check", || {
-                block(512, voices, 0, during, false)
+            let voiced = voiced(voices);
+            line(&format!("a block of 512 frames, {voiced}, {name}"), || {
+                block(512, voices, 0, during)
             });
         }
     }
     for voices in [2, 4, 8] {
-        line(
-            &format!("a block of 512 frames, {voices} voices, at rest"),
-            || block(512, voices, 0, During::Rest, true),
-        );
+        let voiced = voiced(voices);
+        line(&format!("a block of 512 frames, {voiced}, at rest"), || {
+            block(512, voices, 0, During::Rest)
+        });
     }
     for frames in [1, 64, 4_096] {
         line(
             &format!("a block of length {frames}, 1 voice, at rest"),
-            || block(frames, 1, 0, During::Rest, true),
+            || block(frames, 1, 0, During::Rest),
         );
     }
     for waiting in [64, 512, 4_095] {
         line(
             &format!("a block of 512 frames, 1 voice, {waiting} commands waiting"),
-            || block(512, 1, waiting, During::Rest, true),
+            || block(512, 1, waiting, During::Rest),
         );
     }
     line("a submission into a queue of 4,095", || run(5, submission));
