@@ -1,9 +1,9 @@
 -- What a refused call hands back to a host: a session that matches the one that the call leaves, and where the host's own numbers are refused, that number alone. Assumes nothing.
-use mathlib.Core.Path.{_≡_, refl, ap, _∙_}
+use mathlib.Core.Path.{_≡_, refl, sym, ap, _∙_}
 use mathlib.Core.Bool.{Bool, true, false, _&&_, cond}
 use mathlib.Core.List.{List}
 use mathlib.Core.Logic.{_⊎_, inl, inr}
-use Prim.Native.Nat.{ℕ, zero, suc, _+_, _-_, _^_, min}
+use Prim.Native.Nat.{ℕ, _+_, _-_, _^_, min}
 use native.Mathlib.Omega.{arith}
 use lib.Dec.{eqb}
 use lib.Ieee.{Float}
@@ -19,10 +19,11 @@ use Rattle.host.specs.declared.HostSession.{HostSession}
 use Rattle.host.specs.declared.HostCommand.{HostCommand}
 use Rattle.host.specs.declared.HostAt.{HostAt}
 use Rattle.host.specs.declared.HostSnapshot.{HostSnapshot}
-use Rattle.host.specs.Kept.{isKind, isSession, sessionOf}
+use Rattle.host.specs.Kept.{isKind, noHandle, isSession, sessionOf}
 use Rattle.host.specs.Arguments.{isSubmission, isAt, isSnapshot}
-use Rattle.host.specs.Answers.{withDropped, turned, weighHost, unless, answered, noHandle, loaded, submitted, replayed, stopped, noSnapshot, snapped, noMetrics, metered}
+use Rattle.host.specs.Answers.{withDropped, turned, weighHost, unless, answered, loaded, submitted, replayed, stopped, noSnapshot, snapped, noMetrics, metered}
 use Rattle.host.specs.Calls.{loadHost, retireHost, submitHost, transitionHost, replayHost, blockHost, startCaptureHost, stopCaptureHost, snapshotHost, applyHost, metricsHost}
+use Rattle.host.proofs.Weighed.{call-refused}
 
 -- it matches the session turned away, with 15 counted in both,
 pub turned-matches : (k : Refusal) (h : HostSession) → sessionOf (turned (numberOf k) h) ≡ turnedAway k (sessionOf h)
@@ -42,11 +43,6 @@ unfolding turned
 turned-same n h other = rw (ne-eqb n 15 other)
 
 -- ---- the host's own numbers
-
-stops : {A : Type 0} (n : ℕ) (refusal : ℕ → A) (done : A) → (n ≡ 0 → ⊥) → unless n refusal done ≡ refusal n
-unfolding unless
-stops zero refusal done e = absurd (e refl)
-stops (suc n) refusal done e = refl
 
 module _ (h : HostSession) (q c : List ℕ) where
   -- where every number names a case nothing is refused,
@@ -77,7 +73,7 @@ module _ (h : HostSession) (q c : List ℕ) where
   -- one law for every call: where they are refused, it gives their number and the very session that came
   pub stays : {A : Type 0} (named : Bool) (give : ℕ → HostSession → A) (done : A)
       → (weighHost h q c named ≡ 0 → ⊥) → unless (weighHost h q c named) (λ n. give n (turned n h)) done ≡ give (weighHost h q c named) h
-  stays named give done e = stops (weighHost h q c named) _ _ e ∙ ap (give (weighHost h q c named)) (turned-same (weighHost h q c named) h (uncounted named))
+  stays named give done e = sym (call-refused (weighHost h q c named) _ _ _ refl e refl) ∙ ap (give (weighHost h q c named)) (turned-same (weighHost h q c named) h (uncounted named))
 
   -- and so, with every store as it was, a load,
   pub load-stays : (pool samples : List Float) (kind : ℕ) (extent : SongFrame) (rate : ℕ) → (weighHost h q c (isKind kind) ≡ 0 → ⊥)

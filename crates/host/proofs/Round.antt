@@ -1,21 +1,29 @@
 -- A session that goes to a host and comes back is the same session; a host's session that comes and goes back is the same but for what is not used. Assumes nothing.
 use mathlib.Core.Path.{_≡_, refl, sym, ap, _∙_}
-use mathlib.Core.Bool.{Bool, true, false, _&&_}
+use mathlib.Core.Bool.{Bool, true, false, not, _&&_}
 use mathlib.Core.List.{List, [], _∷_, map}
 use mathlib.Core.Logic.{_⊎_, inl, inr}
 use Prim.Native.Nat.{ℕ, zero, suc, _<_, _≤_}
 use native.Mathlib.Omega.{arith}
-use lib.Dec.{eqb}
+use lib.Dec.{eqb, leb}
+use lib.Ieee.{Float}
 use lib.ListN.{length, getD, List·getD-map}
 use borrow.Author.Tests.{leb-true, eqb-true}
-use Rattle.counts.specs.Below.{allBelow}
-use Rattle.counts.proofs.Truth.{and-true, and-l, and-r, or-cases}
+use Rattle.counts.specs.Below.{within, allBelow}
+use Rattle.counts.proofs.Truth.{never, and-true, and-l, and-r, or-cases}
 use Rattle.counts.proofs.Below.{all-true, all-at, all-same}
+use Rattle.counts.specs.declared.SongFrame.{SongFrame}
+use Rattle.counts.specs.declared.Handle.{Handle}
+use Rattle.ramp.specs.Number.{zero32}
 use Rattle.bank.specs.declared.Kind.{Kind}
 use Rattle.bank.specs.declared.Clip.{Clip}
 use Rattle.bank.specs.Slots.{extentOf}
 use Rattle.transport.specs.declared.TransportState.{TransportState}
+use Rattle.timeline.specs.declared.Submission.{Submission}
+use Rattle.timeline.specs.Command.{commandOf}
+use Rattle.timeline.specs.Record.{rowWith}
 use Rattle.transport.specs.declared.LoopRange.{LoopRange}
+use Rattle.transport.specs.declared.At.{At}
 use Rattle.stage.specs.declared.Tail.{Tail}
 use Rattle.session.specs.declared.Session.{Session}
 use Rattle.control.specs.declared.PerformanceSnapshot.{PerformanceSnapshot}
@@ -23,8 +31,10 @@ use Rattle.host.specs.declared.HostClip.{HostClip}
 use Rattle.host.specs.declared.HostLoop.{HostLoop}
 use Rattle.host.specs.declared.HostTail.{HostTail}
 use Rattle.host.specs.declared.HostSession.{HostSession}
-use Rattle.host.specs.Kept.{isKind, kindOf, kindNumber, clipOf, clipNumbers, isState, stateOf, stateNumber, isFlag, flagOf, flagNumber, loopOf, loopNumbers, tailOf, tailNumbers, blankClip, kindsOk, isSession, sessionOf, hostOf, tidyClip, tidyLoop, tidyTail, tidy}
-use Rattle.host.specs.Arguments.{isSnapshot, snapshotOf, snapshotNumbers}
+use Rattle.host.specs.declared.HostCommand.{HostCommand}
+use Rattle.host.specs.declared.HostAt.{HostAt}
+use Rattle.host.specs.Kept.{isKind, kindOf, kindNumber, clipOf, clipNumbers, isState, stateOf, stateNumber, isFlag, flagOf, flagNumber, loopOf, loopNumbers, tailOf, tailNumbers, noHandle, blankClip, kindsOk, isSession, sessionOf, hostOf, tidyClip, tidyLoop, tidyTail, tidy}
+use Rattle.host.specs.Arguments.{isSubmission, submissionOf, isAt, atOf, isSnapshot, snapshotOf, snapshotNumbers}
 
 -- ---- a session to its host and back
 
@@ -212,3 +222,67 @@ tidy-names h = rw (all-same _ _ 32 (λ i l. clips-keep (h .clips) i))
 -- a host's session that some session gives, but for what is not used, has numbers that each name a case
 pub matched : (s : Session) (h : HostSession) → hostOf s ≡ tidy h → isSession h ≡ true
 matched s h e = sym (tidy-names h) ∙ ap isSession (sym e) ∙ names s
+
+-- ---- what an argument names
+
+-- a song's start
+abbrev start : SongFrame
+start = record { 0 = 0 }
+
+-- a command of a kind, with what the kinds use
+abbrev command : ℕ → Float → Handle → SongFrame → SongFrame → HostCommand
+command k g h s e = record { kind = k; gain = g; clip = h; frame = s; end = e }
+
+-- a command's kind is numbered as in a record
+pub as-recorded : (x : HostCommand) (t n : ℕ) → isSubmission x ≡ true → rowWith t n (commandOf (submissionOf x)) .kind ≡ x .kind
+as-recorded x t n e = go (x .kind) below e
+  where
+    of : ℕ → HostCommand
+    of k = command k (x .gain) (x .clip) (x .frame) (x .end)
+
+    below : x .kind ≤ 10
+    below = leb-true (x .kind) 10 (and-r (leb 1 (x .kind)) (leb (x .kind) 10) (and-l (within 1 10 (x .kind)) (not (eqb (x .kind) 5)) e))
+
+    go : (k : ℕ) → k ≤ 10 → isSubmission (of k) ≡ true → rowWith t n (commandOf (submissionOf (of k))) .kind ≡ k
+    go zero l e = absurd (never (sym e))
+    go (suc zero) l e = refl
+    go (suc (suc zero)) l e = refl
+    go (suc (suc (suc zero))) l e = refl
+    go (suc (suc (suc (suc zero)))) l e = refl
+    go (suc (suc (suc (suc (suc zero))))) l e = absurd (never (sym e))
+    go (suc (suc (suc (suc (suc (suc zero)))))) l e = refl
+    go (suc (suc (suc (suc (suc (suc (suc zero))))))) l e = refl
+    go (suc (suc (suc (suc (suc (suc (suc (suc zero)))))))) l e = refl
+    go (suc (suc (suc (suc (suc (suc (suc (suc (suc zero))))))))) l e = refl
+    go (suc (suc (suc (suc (suc (suc (suc (suc (suc (suc zero)))))))))) l e = refl
+    go (suc (suc (suc (suc (suc (suc (suc (suc (suc (suc (suc k))))))))))) l e = absurd (omega arith)
+
+-- a command that names a submission
+pub record Said (y : Submission) : Type 0 where
+  pub says : HostCommand
+  pub named : isSubmission says ≡ true
+  pub means : submissionOf says ≡ y
+
+-- each of the nine has one
+pub each-said : (y : Submission) → Said y
+each-said Submission.Play = record { says = command 1 zero32 noHandle start start; named = refl; means = refl }
+each-said Submission.Pause = record { says = command 2 zero32 noHandle start start; named = refl; means = refl }
+each-said Submission.Stop = record { says = command 3 zero32 noHandle start start; named = refl; means = refl }
+each-said (Submission.Seek f) = record { says = command 4 zero32 noHandle f start; named = refl; means = refl }
+each-said (Submission.Loop s e) = record { says = command 6 zero32 noHandle s e; named = refl; means = refl }
+each-said Submission.ClearLoop = record { says = command 7 zero32 noHandle start start; named = refl; means = refl }
+each-said (Submission.Gain g) = record { says = command 8 g noHandle start start; named = refl; means = refl }
+each-said (Submission.Swap h) = record { says = command 9 zero32 h start start; named = refl; means = refl }
+each-said (Submission.Stinger h g) = record { says = command 10 g h start start; named = refl; means = refl }
+
+-- a number and a frame that name a time
+pub record Timed (y : At) : Type 0 where
+  pub time : HostAt
+  pub named : isAt time ≡ true
+  pub means : atOf time ≡ y
+
+-- each of the three has one
+pub each-timed : (y : At) → Timed y
+each-timed At.Immediate = record { time = record { kind = 1; frame = 0 }; named = refl; means = refl }
+each-timed (At.Frame t) = record { time = record { kind = 2; frame = t .0 }; named = refl; means = refl }
+each-timed (At.Song t) = record { time = record { kind = 3; frame = t .0 }; named = refl; means = refl }

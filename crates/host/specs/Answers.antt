@@ -5,6 +5,7 @@ use mathlib.Core.List.{List}
 use lib.Dec.{eqb}
 use Rattle.counts.specs.declared.Handle.{Handle}
 use Rattle.ramp.specs.Number.{zero32}
+use Rattle.transport.specs.declared.LoopRange.{LoopRange}
 use Rattle.session.specs.declared.Answer.{Answer}
 use Rattle.session.specs.declared.Answered.{Answered}
 use Rattle.session.specs.Refusal.{numberOf}
@@ -33,7 +34,7 @@ use Rattle.host.specs.declared.HostReplayed.{HostReplayed}
 use Rattle.host.specs.declared.HostStopped.{HostStopped}
 use Rattle.host.specs.declared.HostSnapped.{HostSnapped}
 use Rattle.host.specs.declared.HostMetrics.{HostMetrics}
-use Rattle.host.specs.Kept.{isSession, sessionOf, hostOf}
+use Rattle.host.specs.Kept.{loopNumbers, noHandle, isSession, sessionOf, hostOf}
 use Rattle.host.specs.Arguments.{snapshotNumbers}
 
 -- the same with another dropped count
@@ -74,10 +75,6 @@ weighHost h q c named = cond (isSession h) (cond named 0 (cond (wellFormed (sess
 unfoldable pub unless {ℓ} : {A : Type ℓ} → ℕ → (ℕ → A) → A → A
 unless zero refused done = done
 unless (suc n) refused done = refused (suc n)
-
--- no clip
-abbrev pub noHandle : Handle
-noHandle = record { slot = 0; serial = 0 }
 
 -- ---- no value: retire, block, start capture, apply snapshot
 
@@ -165,8 +162,7 @@ snapped n x h = record { refusal = n; snapshot = x; session = h }
 
 -- position 0, stopped, gain 0, no loop
 abbrev pub noSnapshot : HostSnapshot
-noSnapshot =
-    record { position = record { 0 = 0 }; state = 0; gain = zero32; looped = record { set = 0; start = record { 0 = 0 }; end = record { 0 = 0 } } }
+noSnapshot = record { position = record { 0 = 0 }; state = 0; gain = zero32; looped = loopNumbers LoopRange.Off }
 
 abbrev pub snapshotRefused : HostSession → ℕ → HostSnapped
 snapshotRefused h n = snapped n noSnapshot (turned n h)

@@ -6,6 +6,7 @@ use lib.Dec.{eqb, leb}
 use lib.ListN.{getD}
 use Rattle.counts.specs.Below.{allBelow}
 use Rattle.counts.specs.declared.SongFrame.{SongFrame}
+use Rattle.counts.specs.declared.Handle.{Handle}
 use Rattle.ramp.specs.Number.{zero32}
 use Rattle.ramp.specs.Ramp.{atRest}
 use Rattle.bank.specs.declared.Kind.{Kind}
@@ -81,17 +82,21 @@ abbrev pub loopNumbers : LoopRange → HostLoop
 loopNumbers LoopRange.Off = record { set = 0; start = record { 0 = 0 }; end = record { 0 = 0 } }
 loopNumbers (LoopRange.Range s e) = record { set = 1; start = s; end = e }
 
+-- no clip: a handle that is never given
+abbrev pub noHandle : Handle
+noHandle = record { slot = 0; serial = 0 }
+
 -- a tail that sounds has a song, a cursor and a weight
 abbrev pub tailOf : HostTail → Tail
 tailOf x = cond (flagOf (x .sounding)) (Tail.Sounding (x .song) (x .cursor) (x .weight)) Tail.None
 
 abbrev pub tailNumbers : Tail → HostTail
-tailNumbers Tail.None = record { sounding = 0; song = record { slot = 0; serial = 0 }; cursor = record { 0 = 0 }; weight = atRest zero32 }
+tailNumbers Tail.None = record { sounding = 0; song = noHandle; cursor = record { 0 = 0 }; weight = atRest zero32 }
 tailNumbers (Tail.Sounding h c w) = record { sounding = 1; song = h; cursor = c; weight = w }
 
 -- ---- the session
 
--- what no slot holds
+-- what is read past the slots
 abbrev pub blankClip : HostClip
 blankClip = record { serial = 0; kind = 2; extent = record { 0 = 0 }; start = 0; frames = 0; rate = 0 }
 
@@ -190,7 +195,7 @@ abbrev pub tidyTail : HostTail → HostTail
 tidyTail x =
     record {
       sounding = x .sounding;
-      song = cond (flagOf (x .sounding)) (x .song) (record { slot = 0; serial = 0 });
+      song = cond (flagOf (x .sounding)) (x .song) noHandle;
       cursor = cond (flagOf (x .sounding)) (x .cursor) (record { 0 = 0 });
       weight = cond (flagOf (x .sounding)) (x .weight) (atRest zero32);
     }
