@@ -44,21 +44,7 @@ impl Ours {
         let queue = vec![0; QUEUE * 5];
         let capture = vec![0; CAPTURE * 5];
         let mut pool = vec![UNLOADED; POOL as usize * 2];
-        let opened = unsafe {
-            raw::threshreed_open(
-                settings,
-                queue.as_ptr(),
-                queue.len(),
-                capture.as_ptr(),
-                capture.len(),
-                pool.as_mut_ptr(),
-                pool.len(),
-                samples.as_ptr(),
-                samples.len(),
-                rate,
-                extent,
-            )
-        };
+        let opened = raw::open(settings, &queue, &capture, &mut pool, samples, rate, extent);
         let ours = Ours {
             session: opened.session,
             queue,
@@ -92,120 +78,68 @@ impl Ours {
 
     /// Loads a clip of these samples.
     pub fn load(&mut self, samples: &[f32], kind: u32, extent: u64, rate: u32) -> Answer {
-        let loaded = unsafe {
-            raw::threshreed_load(
-                self.session,
-                self.queue.as_ptr(),
-                self.queue.len(),
-                self.capture.as_ptr(),
-                self.capture.len(),
-                self.pool.as_mut_ptr(),
-                self.pool.len(),
-                samples.as_ptr(),
-                samples.len(),
-                kind,
-                extent,
-                rate,
-            )
-        };
+        let loaded = raw::load(
+            self.session,
+            &self.queue,
+            &self.capture,
+            &mut self.pool,
+            samples,
+            kind,
+            extent,
+            rate,
+        );
         self.session = loaded.session;
         answer(loaded.refusal, Answer::Loaded(loaded.handle))
     }
 
     fn retire(&mut self, clip: Handle) -> Answer {
-        let retired = unsafe {
-            raw::threshreed_retire(
-                self.session,
-                self.queue.as_ptr(),
-                self.queue.len(),
-                self.capture.as_ptr(),
-                self.capture.len(),
-                clip,
-            )
-        };
+        let retired = raw::retire(self.session, &self.queue, &self.capture, clip);
         self.session = retired.session;
         answer(retired.refusal, Answer::Done)
     }
 
     fn submit(&mut self, command: Command, at: raw::At) -> Answer {
-        let submitted = unsafe {
-            raw::threshreed_submit(
-                self.session,
-                self.queue.as_mut_ptr(),
-                self.queue.len(),
-                self.capture.as_mut_ptr(),
-                self.capture.len(),
-                command,
-                at,
-            )
-        };
+        let submitted = raw::submit(
+            self.session,
+            &mut self.queue,
+            &mut self.capture,
+            command,
+            at,
+        );
         self.session = submitted.session;
         answer(submitted.refusal, Answer::Queued(submitted.number))
     }
 
     fn transition(&mut self, frame: u64, at: raw::At) -> Answer {
-        let submitted = unsafe {
-            raw::threshreed_transition(
-                self.session,
-                self.queue.as_mut_ptr(),
-                self.queue.len(),
-                self.capture.as_mut_ptr(),
-                self.capture.len(),
-                frame,
-                at,
-            )
-        };
+        let submitted =
+            raw::transition(self.session, &mut self.queue, &mut self.capture, frame, at);
         self.session = submitted.session;
         answer(submitted.refusal, Answer::Queued(submitted.number))
     }
 
     fn block(&mut self, frames: usize) -> Answer {
         let mut out = vec![f32::NAN; frames * 2];
-        let made = unsafe {
-            raw::threshreed_block(
-                self.session,
-                self.queue.as_ptr(),
-                self.queue.len(),
-                self.capture.as_ptr(),
-                self.capture.len(),
-                self.pool.as_ptr(),
-                self.pool.len(),
-                out.as_mut_ptr(),
-                out.len(),
-            )
-        };
+        let made = raw::block(
+            self.session,
+            &self.queue,
+            &self.capture,
+            &self.pool,
+            &mut out,
+        );
         self.session = made.session;
         let bits = out.iter().map(|sample| sample.to_bits()).collect();
         answer(made.refusal, Answer::Samples(bits))
     }
 
     fn start_capture(&mut self) -> Answer {
-        let started = unsafe {
-            raw::threshreed_start_capture(
-                self.session,
-                self.queue.as_ptr(),
-                self.queue.len(),
-                self.capture.as_ptr(),
-                self.capture.len(),
-            )
-        };
+        let started = raw::start_capture(self.session, &self.queue, &self.capture);
         self.session = started.session;
         answer(started.refusal, Answer::Done)
     }
 
     fn stop_capture(&mut self) -> Answer {
         let mut list = vec![0; CAPTURE * 5];
-        let stopped = unsafe {
-            raw::threshreed_stop_capture(
-                self.session,
-                self.queue.as_ptr(),
-                self.queue.len(),
-                self.capture.as_ptr(),
-                self.capture.len(),
-                list.as_mut_ptr(),
-                list.len(),
-            )
-        };
+        let stopped = raw::stop_capture(self.session, &self.queue, &self.capture, &mut list);
         self.session = stopped.session;
         list.truncate(stopped.copied * 5);
         let records = list.as_chunks().0.to_vec();
@@ -214,31 +148,13 @@ impl Ours {
     }
 
     fn replay(&mut self) -> Answer {
-        let replayed = unsafe {
-            raw::threshreed_replay(
-                self.session,
-                self.queue.as_mut_ptr(),
-                self.queue.len(),
-                self.capture.as_ptr(),
-                self.capture.len(),
-                self.list.as_ptr(),
-                self.list.len(),
-            )
-        };
+        let replayed = raw::replay(self.session, &mut self.queue, &self.capture, &self.list);
         self.session = replayed.session;
         answer(replayed.refusal, Answer::Replayed(replayed.report))
     }
 
     fn snapshot(&mut self) -> Answer {
-        let snapped = unsafe {
-            raw::threshreed_snapshot(
-                self.session,
-                self.queue.as_ptr(),
-                self.queue.len(),
-                self.capture.as_ptr(),
-                self.capture.len(),
-            )
-        };
+        let snapped = raw::snapshot(self.session, &self.queue, &self.capture);
         self.session = snapped.session;
         let taken = snapped.snapshot;
         self.snapshot = Some(taken);
@@ -247,31 +163,19 @@ impl Ours {
     }
 
     fn apply(&mut self) -> Answer {
-        let applied = unsafe {
-            raw::threshreed_apply_snapshot(
-                self.session,
-                self.queue.as_ptr(),
-                self.queue.len(),
-                self.capture.as_ptr(),
-                self.capture.len(),
-                self.snapshot.expect("a snapshot was taken"),
-            )
-        };
+        let applied = raw::apply_snapshot(
+            self.session,
+            &self.queue,
+            &self.capture,
+            self.snapshot.expect("a snapshot was taken"),
+        );
         self.session = applied.session;
         answer(applied.refusal, Answer::Done)
     }
 
     /// Read off the session, its counts by the metrics call.
     pub fn standing(&self) -> Standing {
-        let metered = unsafe {
-            raw::threshreed_metrics(
-                self.session,
-                self.queue.as_ptr(),
-                self.queue.len(),
-                self.capture.as_ptr(),
-                self.capture.len(),
-            )
-        };
+        let metered = raw::metrics(self.session, &self.queue, &self.capture);
         assert_eq!(metered.refusal, 0, "the metrics are refused");
         let metrics = metered.metrics;
         Standing {

@@ -3,6 +3,7 @@
 
 use compare::clip;
 use compare::dice::Dice;
+use compare::ours::handle_word;
 use compare::script::{NOW, SONG, STINGER, at_frame, kind, plain, state};
 use threshreed::raw::{
     self, At, Clip, Command, Handle, Loop, NO_SUCH_CASE, Ramp, Session, Settings, Snapshot,
@@ -57,64 +58,58 @@ struct Arguments {
 impl Host {
     /// Makes a call by its name, and gives its refusal.
     fn call(&mut self, name: &str, x: &mut Arguments) -> u32 {
-        let s = self.session;
-        let (q, qn) = (self.queue.as_mut_ptr(), self.queue.len());
-        let (c, cn) = (self.capture.as_mut_ptr(), self.capture.len());
-        let (p, pn) = (self.pool.as_mut_ptr(), self.pool.len());
-        let (refusal, session) = unsafe {
-            match name {
-                "load" => {
-                    let (samples, n) = (x.samples.as_ptr(), x.samples.len());
-                    let r = raw::threshreed_load(
-                        s, q, qn, c, cn, p, pn, samples, n, x.kind, x.extent, x.rate,
-                    );
-                    (r.refusal, r.session)
-                }
-                "retire" => {
-                    let r = raw::threshreed_retire(s, q, qn, c, cn, x.clip);
-                    (r.refusal, r.session)
-                }
-                "submit" => {
-                    let r = raw::threshreed_submit(s, q, qn, c, cn, x.command, x.at);
-                    (r.refusal, r.session)
-                }
-                "transition" => {
-                    let r = raw::threshreed_transition(s, q, qn, c, cn, x.frame, x.at);
-                    (r.refusal, r.session)
-                }
-                "replay" => {
-                    let (list, n) = (x.list.as_ptr(), x.list.len());
-                    let r = raw::threshreed_replay(s, q, qn, c, cn, list, n);
-                    (r.refusal, r.session)
-                }
-                "block" => {
-                    let (out, n) = (x.out.as_mut_ptr(), x.out.len());
-                    let r = raw::threshreed_block(s, q, qn, c, cn, p, pn, out, n);
-                    (r.refusal, r.session)
-                }
-                "start capture" => {
-                    let r = raw::threshreed_start_capture(s, q, qn, c, cn);
-                    (r.refusal, r.session)
-                }
-                "stop capture" => {
-                    let (list, n) = (x.list.as_mut_ptr(), x.list.len());
-                    let r = raw::threshreed_stop_capture(s, q, qn, c, cn, list, n);
-                    (r.refusal, r.session)
-                }
-                "snapshot" => {
-                    let r = raw::threshreed_snapshot(s, q, qn, c, cn);
-                    (r.refusal, r.session)
-                }
-                "apply snapshot" => {
-                    let r = raw::threshreed_apply_snapshot(s, q, qn, c, cn, x.snapshot);
-                    (r.refusal, r.session)
-                }
-                "metrics" => {
-                    let r = raw::threshreed_metrics(s, q, qn, c, cn);
-                    (r.refusal, r.session)
-                }
-                other => panic!("no call is named {other}"),
+        let (s, q, c, p) = (
+            self.session,
+            &mut self.queue,
+            &mut self.capture,
+            &mut self.pool,
+        );
+        let (refusal, session) = match name {
+            "load" => {
+                let r = raw::load(s, q, c, p, &x.samples, x.kind, x.extent, x.rate);
+                (r.refusal, r.session)
             }
+            "retire" => {
+                let r = raw::retire(s, q, c, x.clip);
+                (r.refusal, r.session)
+            }
+            "submit" => {
+                let r = raw::submit(s, q, c, x.command, x.at);
+                (r.refusal, r.session)
+            }
+            "transition" => {
+                let r = raw::transition(s, q, c, x.frame, x.at);
+                (r.refusal, r.session)
+            }
+            "replay" => {
+                let r = raw::replay(s, q, c, &x.list);
+                (r.refusal, r.session)
+            }
+            "block" => {
+                let r = raw::block(s, q, c, p, &mut x.out);
+                (r.refusal, r.session)
+            }
+            "start capture" => {
+                let r = raw::start_capture(s, q, c);
+                (r.refusal, r.session)
+            }
+            "stop capture" => {
+                let r = raw::stop_capture(s, q, c, &mut x.list);
+                (r.refusal, r.session)
+            }
+            "snapshot" => {
+                let r = raw::snapshot(s, q, c);
+                (r.refusal, r.session)
+            }
+            "apply snapshot" => {
+                let r = raw::apply_snapshot(s, q, c, x.snapshot);
+                (r.refusal, r.session)
+            }
+            "metrics" => {
+                let r = raw::metrics(s, q, c);
+                (r.refusal, r.session)
+            }
+            other => panic!("no call is named {other}"),
         };
         self.session = session;
         refusal
@@ -179,7 +174,7 @@ fn bits(session: &Session) -> Vec<u64> {
         words.extend([clip.start, clip.frames, u64::from(clip.rate)]);
     }
     for voice in &session.voices.table {
-        words.extend([handle_bits(voice.handle), voice.head as u64]);
+        words.extend([handle_word(voice.handle), voice.head as u64]);
         words.extend(ramp_bits(voice.gain));
     }
     let Settings {
@@ -193,12 +188,12 @@ fn bits(session: &Session) -> Vec<u64> {
     words.extend([session.clock, session.position, session.cursor]);
     let looped = session.looped;
     words.extend([u64::from(looped.set), looped.start, looped.end]);
-    words.push(handle_bits(session.song));
+    words.push(handle_word(session.song));
     words.extend(ramp_bits(session.master));
     let tail = session.tail;
     words.extend([
         u64::from(tail.sounding),
-        handle_bits(tail.song),
+        handle_word(tail.song),
         tail.cursor,
     ]);
     words.extend(ramp_bits(tail.weight));
@@ -208,10 +203,6 @@ fn bits(session: &Session) -> Vec<u64> {
     words.extend([session.number, session.dropped]);
     words.extend([u64::from(session.capturing), session.captured as u64]);
     words
-}
-
-fn handle_bits(handle: Handle) -> u64 {
-    u64::from(handle.slot) << 32 | u64::from(handle.serial)
 }
 
 fn ramp_bits(ramp: Ramp) -> [u64; 4] {
@@ -279,21 +270,7 @@ const SETTINGS: Settings = Settings {
 fn opened(settings: Settings, samples: &[f32], rate: u32, extent: u64) -> (u32, Host) {
     let (queue, capture) = (vec![0; QUEUE * 5], vec![0; CAPTURE * 5]);
     let mut pool = vec![0.0; POOL as usize * 2];
-    let opened = unsafe {
-        raw::threshreed_open(
-            settings,
-            queue.as_ptr(),
-            queue.len(),
-            capture.as_ptr(),
-            capture.len(),
-            pool.as_mut_ptr(),
-            pool.len(),
-            samples.as_ptr(),
-            samples.len(),
-            rate,
-            extent,
-        )
-    };
+    let opened = raw::open(settings, &queue, &capture, &mut pool, samples, rate, extent);
     let host = Host {
         session: opened.session,
         queue,
@@ -518,19 +495,19 @@ fn handles() {
         ("song", |h, clip| h.session.song = clip),
         ("tail", |h, clip| h.session.tail.song = clip),
         ("queued", |h, clip| {
-            row(&mut h.queue, SWAP_ROW)[FIRST] = handle_bits(clip)
+            row(&mut h.queue, SWAP_ROW)[FIRST] = handle_word(clip)
         }),
         ("captured", |h, clip| {
-            row(&mut h.capture, SWAP_TAKEN)[FIRST] = handle_bits(clip)
+            row(&mut h.capture, SWAP_TAKEN)[FIRST] = handle_word(clip)
         }),
     ];
     let stingers: [(&str, Hold); 3] = [
         ("voice", |h, clip| h.session.voices.table[1].handle = clip),
         ("queued", |h, clip| {
-            row(&mut h.queue, STINGER_ROW)[FIRST] = handle_bits(clip)
+            row(&mut h.queue, STINGER_ROW)[FIRST] = handle_word(clip)
         }),
         ("captured", |h, clip| {
-            row(&mut h.capture, STINGER_TAKEN)[FIRST] = handle_bits(clip)
+            row(&mut h.capture, STINGER_TAKEN)[FIRST] = handle_word(clip)
         }),
     ];
     let refused = |what: &str, hold: Hold, free: u32, wrong_kind: u32, wrong_rate: u32| {

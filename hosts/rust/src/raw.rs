@@ -1,7 +1,4 @@
-//! The proved library as it is: a session by value in and out, the stores as a pointer and a length.
-//!
-//! A pointer must be aligned and not null, stand for so many elements, and a store that is written must not overlap
-//! another; nothing else is asked of any argument.
+//! The proved library as it is: a session by value in and out, the stores as slices. Any argument is safe.
 
 pub const SLOTS: usize = 32;
 pub const VOICES: usize = 16;
@@ -220,7 +217,7 @@ pub struct Metered {
 }
 
 unsafe extern "C" {
-    pub fn threshreed_open(
+    fn threshreed_open(
         settings: Settings,
         queue: *const u64,
         queue_len: usize,
@@ -234,7 +231,7 @@ unsafe extern "C" {
         extent: u64,
     ) -> Loaded;
 
-    pub fn threshreed_load(
+    fn threshreed_load(
         session: Session,
         queue: *const u64,
         queue_len: usize,
@@ -249,7 +246,7 @@ unsafe extern "C" {
         rate: u32,
     ) -> Loaded;
 
-    pub fn threshreed_retire(
+    fn threshreed_retire(
         session: Session,
         queue: *const u64,
         queue_len: usize,
@@ -258,7 +255,7 @@ unsafe extern "C" {
         clip: Handle,
     ) -> Answered;
 
-    pub fn threshreed_submit(
+    fn threshreed_submit(
         session: Session,
         queue: *mut u64,
         queue_len: usize,
@@ -268,7 +265,7 @@ unsafe extern "C" {
         at: At,
     ) -> Submitted;
 
-    pub fn threshreed_transition(
+    fn threshreed_transition(
         session: Session,
         queue: *mut u64,
         queue_len: usize,
@@ -278,7 +275,7 @@ unsafe extern "C" {
         at: At,
     ) -> Submitted;
 
-    pub fn threshreed_replay(
+    fn threshreed_replay(
         session: Session,
         queue: *mut u64,
         queue_len: usize,
@@ -288,7 +285,7 @@ unsafe extern "C" {
         list_len: usize,
     ) -> Replayed;
 
-    pub fn threshreed_block(
+    fn threshreed_block(
         session: Session,
         queue: *const u64,
         queue_len: usize,
@@ -300,7 +297,7 @@ unsafe extern "C" {
         out_len: usize,
     ) -> Answered;
 
-    pub fn threshreed_start_capture(
+    fn threshreed_start_capture(
         session: Session,
         queue: *const u64,
         queue_len: usize,
@@ -308,7 +305,7 @@ unsafe extern "C" {
         capture_len: usize,
     ) -> Answered;
 
-    pub fn threshreed_stop_capture(
+    fn threshreed_stop_capture(
         session: Session,
         queue: *const u64,
         queue_len: usize,
@@ -318,7 +315,7 @@ unsafe extern "C" {
         list_len: usize,
     ) -> Stopped;
 
-    pub fn threshreed_snapshot(
+    fn threshreed_snapshot(
         session: Session,
         queue: *const u64,
         queue_len: usize,
@@ -326,7 +323,7 @@ unsafe extern "C" {
         capture_len: usize,
     ) -> Snapped;
 
-    pub fn threshreed_apply_snapshot(
+    fn threshreed_apply_snapshot(
         session: Session,
         queue: *const u64,
         queue_len: usize,
@@ -335,11 +332,239 @@ unsafe extern "C" {
         snapshot: Snapshot,
     ) -> Answered;
 
-    pub fn threshreed_metrics(
+    fn threshreed_metrics(
         session: Session,
         queue: *const u64,
         queue_len: usize,
         capture: *const u64,
         capture_len: usize,
     ) -> Metered;
+}
+
+// Each `unsafe` below is one call of the library. It asks of a pointer that it is aligned and not null, stands for so many
+// elements, and that what is written overlaps nothing else that is lent: slices and their borrows give just that, an
+// empty slice too. Nothing is kept of a pointer after the call, and the types above have no bits that they may not have.
+
+/// Opens a session on its first song.
+pub fn open(
+    settings: Settings,
+    queue: &[u64],
+    capture: &[u64],
+    pool: &mut [f32],
+    samples: &[f32],
+    rate: u32,
+    extent: u64,
+) -> Loaded {
+    unsafe {
+        threshreed_open(
+            settings,
+            queue.as_ptr(),
+            queue.len(),
+            capture.as_ptr(),
+            capture.len(),
+            pool.as_mut_ptr(),
+            pool.len(),
+            samples.as_ptr(),
+            samples.len(),
+            rate,
+            extent,
+        )
+    }
+}
+
+/// Loads a clip of a kind: 1 a song of a length, 2 a stinger.
+#[allow(clippy::too_many_arguments)]
+pub fn load(
+    session: Session,
+    queue: &[u64],
+    capture: &[u64],
+    pool: &mut [f32],
+    samples: &[f32],
+    kind: u32,
+    extent: u64,
+    rate: u32,
+) -> Loaded {
+    unsafe {
+        threshreed_load(
+            session,
+            queue.as_ptr(),
+            queue.len(),
+            capture.as_ptr(),
+            capture.len(),
+            pool.as_mut_ptr(),
+            pool.len(),
+            samples.as_ptr(),
+            samples.len(),
+            kind,
+            extent,
+            rate,
+        )
+    }
+}
+
+/// Retires a clip that nothing holds.
+pub fn retire(session: Session, queue: &[u64], capture: &[u64], clip: Handle) -> Answered {
+    unsafe {
+        threshreed_retire(
+            session,
+            queue.as_ptr(),
+            queue.len(),
+            capture.as_ptr(),
+            capture.len(),
+            clip,
+        )
+    }
+}
+
+/// Submits a command of one of nine kinds.
+pub fn submit(
+    session: Session,
+    queue: &mut [u64],
+    capture: &mut [u64],
+    command: Command,
+    at: At,
+) -> Submitted {
+    unsafe {
+        threshreed_submit(
+            session,
+            queue.as_mut_ptr(),
+            queue.len(),
+            capture.as_mut_ptr(),
+            capture.len(),
+            command,
+            at,
+        )
+    }
+}
+
+/// Submits a transition in place of every queued one.
+pub fn transition(
+    session: Session,
+    queue: &mut [u64],
+    capture: &mut [u64],
+    frame: u64,
+    at: At,
+) -> Submitted {
+    unsafe {
+        threshreed_transition(
+            session,
+            queue.as_mut_ptr(),
+            queue.len(),
+            capture.as_mut_ptr(),
+            capture.len(),
+            frame,
+            at,
+        )
+    }
+}
+
+/// Queues the records of a list at their frames.
+pub fn replay(session: Session, queue: &mut [u64], capture: &[u64], list: &[u64]) -> Replayed {
+    unsafe {
+        threshreed_replay(
+            session,
+            queue.as_mut_ptr(),
+            queue.len(),
+            capture.as_ptr(),
+            capture.len(),
+            list.as_ptr(),
+            list.len(),
+        )
+    }
+}
+
+/// Makes a block: half as many frames as the output has samples.
+pub fn block(
+    session: Session,
+    queue: &[u64],
+    capture: &[u64],
+    pool: &[f32],
+    out: &mut [f32],
+) -> Answered {
+    unsafe {
+        threshreed_block(
+            session,
+            queue.as_ptr(),
+            queue.len(),
+            capture.as_ptr(),
+            capture.len(),
+            pool.as_ptr(),
+            pool.len(),
+            out.as_mut_ptr(),
+            out.len(),
+        )
+    }
+}
+
+/// Starts capture, empty.
+pub fn start_capture(session: Session, queue: &[u64], capture: &[u64]) -> Answered {
+    unsafe {
+        threshreed_start_capture(
+            session,
+            queue.as_ptr(),
+            queue.len(),
+            capture.as_ptr(),
+            capture.len(),
+        )
+    }
+}
+
+/// Stops capture and copies its records to the list's front.
+pub fn stop_capture(session: Session, queue: &[u64], capture: &[u64], list: &mut [u64]) -> Stopped {
+    unsafe {
+        threshreed_stop_capture(
+            session,
+            queue.as_ptr(),
+            queue.len(),
+            capture.as_ptr(),
+            capture.len(),
+            list.as_mut_ptr(),
+            list.len(),
+        )
+    }
+}
+
+/// Takes a control snapshot.
+pub fn snapshot(session: Session, queue: &[u64], capture: &[u64]) -> Snapped {
+    unsafe {
+        threshreed_snapshot(
+            session,
+            queue.as_ptr(),
+            queue.len(),
+            capture.as_ptr(),
+            capture.len(),
+        )
+    }
+}
+
+/// Applies a control snapshot.
+pub fn apply_snapshot(
+    session: Session,
+    queue: &[u64],
+    capture: &[u64],
+    snapshot: Snapshot,
+) -> Answered {
+    unsafe {
+        threshreed_apply_snapshot(
+            session,
+            queue.as_ptr(),
+            queue.len(),
+            capture.as_ptr(),
+            capture.len(),
+            snapshot,
+        )
+    }
+}
+
+/// Reads the metrics.
+pub fn metrics(session: Session, queue: &[u64], capture: &[u64]) -> Metered {
+    unsafe {
+        threshreed_metrics(
+            session,
+            queue.as_ptr(),
+            queue.len(),
+            capture.as_ptr(),
+            capture.len(),
+        )
+    }
 }

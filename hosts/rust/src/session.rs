@@ -1,8 +1,4 @@
 //! A session together with the stores that it is lent.
-//!
-//! Every `unsafe` below is one call of the library. It asks of a pointer that it is aligned and not null, stands for so
-//! many elements, and that a store that is written overlaps no other: slices and their borrows give just that, an empty
-//! slice too. Nothing is kept of a pointer after the call.
 
 use core::fmt;
 
@@ -90,22 +86,6 @@ impl<const QUEUE: usize, const CAPTURE: usize, const POOL: usize> Default
     }
 }
 
-/// A call of the library on a session: its queue and its capture are lent first, then what the call takes.
-macro_rules! call {
-    ($session:ident, $name:ident $(, $argument:expr)*) => {
-        unsafe {
-            raw::$name(
-                $session.raw,
-                $session.queue.as_mut_ptr(),
-                $session.queue.len(),
-                $session.capture.as_mut_ptr(),
-                $session.capture.len(),
-                $($argument),*
-            )
-        }
-    };
-}
-
 /// A session and its stores. Every call answers at once, allocates nothing, and is safe with any argument: what it does
 /// not take it refuses, and is then as if it had not been made.
 pub struct Session<'a> {
@@ -143,21 +123,15 @@ impl<'a> Session<'a> {
             capture: capture.len() / WORDS,
             pool: (pool.len() / 2) as u64,
         };
-        let opened = unsafe {
-            raw::threshreed_open(
-                settings,
-                queue.as_ptr(),
-                queue.len(),
-                capture.as_ptr(),
-                capture.len(),
-                pool.as_mut_ptr(),
-                pool.len(),
-                song.samples.as_ptr(),
-                song.samples.len(),
-                song.rate,
-                song.length.0,
-            )
-        };
+        let opened = raw::open(
+            settings,
+            queue,
+            capture,
+            pool,
+            song.samples,
+            song.rate,
+            song.length.0,
+        );
         Refusal::check(opened.refusal)?;
         Ok(Session {
             raw: opened.session,
@@ -184,16 +158,15 @@ impl<'a> Session<'a> {
         extent: SongFrame,
         rate: u32,
     ) -> Result<Handle, Refusal> {
-        let loaded = call!(
-            self,
-            threshreed_load,
-            self.pool.as_mut_ptr(),
-            self.pool.len(),
-            samples.as_ptr(),
-            samples.len(),
+        let loaded = raw::load(
+            self.raw,
+            self.queue,
+            self.capture,
+            self.pool,
+            samples,
             kind,
             extent.0,
-            rate
+            rate,
         );
         self.raw = loaded.session;
         Refusal::check(loaded.refusal)?;
@@ -215,7 +188,7 @@ impl<'a> Session<'a> {
     /// # Ok::<(), Refusal>(())
     /// ```
     pub fn retire(&mut self, clip: Handle) -> Result<(), Refusal> {
-        let answered = call!(self, threshreed_retire, clip.0);
+        let answered = raw::retire(self.raw, self.queue, self.capture, clip.0);
         self.answer(answered)
     }
 
@@ -233,20 +206,26 @@ impl<'a> Session<'a> {
     /// # Ok::<(), threshreed::Refusal>(())
     /// ```
     pub fn submit(&mut self, command: Command, at: At) -> Result<u64, Refusal> {
-        let submitted = call!(self, threshreed_submit, command.into(), at.into());
+        let submitted = raw::submit(
+            self.raw,
+            self.queue,
+            self.capture,
+            command.into(),
+            at.into(),
+        );
         self.number(submitted)
     }
 
     /// Submits a seek that takes the place of every queued transition, and answers its number.
     pub fn transition(&mut self, frame: SongFrame, at: At) -> Result<u64, Refusal> {
-        let submitted = call!(self, threshreed_transition, frame.0, at.into());
+        let submitted = raw::transition(self.raw, self.queue, self.capture, frame.0, at.into());
         self.number(submitted)
     }
 
     /// Queues a list's records, [`WORDS`] words each, at their frames, without capture. Tells how many were taken, how
     /// many found the queue full, and how many were skipped otherwise.
     pub fn replay(&mut self, list: &[u64]) -> Result<Report, Refusal> {
-        let replayed = call!(self, threshreed_replay, list.as_ptr(), list.len());
+        let replayed = raw::replay(self.raw, self.queue, self.capture, list);
         self.raw = replayed.session;
         Refusal::check(replayed.refusal)?;
         Ok(replayed.report)
@@ -255,20 +234,13 @@ impl<'a> Session<'a> {
     /// Makes a block of half as many frames as `out` has samples, and executes each command that is due in it at its
     /// frame. A refused block leaves `out` as it was.
     pub fn block(&mut self, out: &mut [f32]) -> Result<(), Refusal> {
-        let answered = call!(
-            self,
-            threshreed_block,
-            self.pool.as_ptr(),
-            self.pool.len(),
-            out.as_mut_ptr(),
-            out.len()
-        );
+        let answered = raw::block(self.raw, self.queue, self.capture, self.pool, out);
         self.answer(answered)
     }
 
     /// Starts capture, empty, also while it runs.
     pub fn start_capture(&mut self) -> Result<(), Refusal> {
-        let answered = call!(self, threshreed_start_capture);
+        let answered = raw::start_capture(self.raw, self.queue, self.capture);
         self.answer(answered)
     }
 
@@ -288,7 +260,7 @@ impl<'a> Session<'a> {
     /// # Ok::<(), threshreed::Refusal>(())
     /// ```
     pub fn stop_capture(&mut self, list: &mut [u64]) -> Result<usize, Refusal> {
-        let stopped = call!(self, threshreed_stop_capture, list.as_mut_ptr(), list.len());
+        let stopped = raw::stop_capture(self.raw, self.queue, self.capture, list);
         self.raw = stopped.session;
         Refusal::check(stopped.refusal)?;
         Ok(stopped.copied)
@@ -296,36 +268,20 @@ impl<'a> Session<'a> {
 
     /// Takes a control snapshot: position, state, the gain that the master is heading for, loop.
     pub fn snapshot(&self) -> Result<Snapshot, Refusal> {
-        let snapped = unsafe {
-            raw::threshreed_snapshot(
-                self.raw,
-                self.queue.as_ptr(),
-                self.queue.len(),
-                self.capture.as_ptr(),
-                self.capture.len(),
-            )
-        };
+        let snapped = raw::snapshot(self.raw, self.queue, self.capture);
         Refusal::check(snapped.refusal)?;
         Ok(snapped.snapshot.into())
     }
 
     /// Applies a control snapshot at once. Clock, queue, tail and voices stay.
     pub fn apply_snapshot(&mut self, snapshot: Snapshot) -> Result<(), Refusal> {
-        let answered = call!(self, threshreed_apply_snapshot, snapshot.into());
+        let answered = raw::apply_snapshot(self.raw, self.queue, self.capture, snapshot.into());
         self.answer(answered)
     }
 
     /// Reads the metrics.
     pub fn metrics(&self) -> Result<Metrics, Refusal> {
-        let metered = unsafe {
-            raw::threshreed_metrics(
-                self.raw,
-                self.queue.as_ptr(),
-                self.queue.len(),
-                self.capture.as_ptr(),
-                self.capture.len(),
-            )
-        };
+        let metered = raw::metrics(self.raw, self.queue, self.capture);
         Refusal::check(metered.refusal)?;
         Ok(metered.metrics)
     }

@@ -208,22 +208,16 @@ impl ByHand {
     }
 
     fn load(&mut self, kind: u32) -> u32 {
-        let loaded = unsafe {
-            raw::threshreed_load(
-                self.session,
-                self.queue.as_ptr(),
-                self.queue.len(),
-                self.capture.as_ptr(),
-                self.capture.len(),
-                self.pool.as_mut_ptr(),
-                self.pool.len(),
-                PAIR.as_ptr(),
-                PAIR.len(),
-                kind,
-                1,
-                RATE,
-            )
-        };
+        let loaded = raw::load(
+            self.session,
+            &self.queue,
+            &self.capture,
+            &mut self.pool,
+            &PAIR,
+            kind,
+            1,
+            RATE,
+        );
         loaded.refusal
     }
 
@@ -235,17 +229,13 @@ impl ByHand {
             frame: 0,
             end: 0,
         };
-        let submitted = unsafe {
-            raw::threshreed_submit(
-                self.session,
-                self.queue.as_mut_ptr(),
-                self.queue.len(),
-                self.capture.as_mut_ptr(),
-                self.capture.len(),
-                command,
-                raw::At { kind: at, frame: 0 },
-            )
-        };
+        let submitted = raw::submit(
+            self.session,
+            &mut self.queue,
+            &mut self.capture,
+            command,
+            raw::At { kind: at, frame: 0 },
+        );
         submitted.refusal
     }
 
@@ -260,16 +250,7 @@ impl ByHand {
                 end: 1,
             },
         };
-        let answered = unsafe {
-            raw::threshreed_apply_snapshot(
-                self.session,
-                self.queue.as_ptr(),
-                self.queue.len(),
-                self.capture.as_ptr(),
-                self.capture.len(),
-                snapshot,
-            )
-        };
+        let answered = raw::apply_snapshot(self.session, &self.queue, &self.capture, snapshot);
         answered.refusal
     }
 }

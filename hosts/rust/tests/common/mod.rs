@@ -24,21 +24,7 @@ impl ByHand {
             capture: 0,
             pool: 4,
         };
-        let opened = unsafe {
-            raw::threshreed_open(
-                settings,
-                queue.as_ptr(),
-                queue.len(),
-                capture.as_ptr(),
-                capture.len(),
-                pool.as_mut_ptr(),
-                pool.len(),
-                PAIR.as_ptr(),
-                PAIR.len(),
-                RATE,
-                1,
-            )
-        };
+        let opened = raw::open(settings, &queue, &capture, &mut pool, &PAIR, RATE, 1);
         assert_eq!(opened.refusal, 0);
         ByHand {
             session: opened.session,
@@ -49,18 +35,6 @@ impl ByHand {
     }
 
     pub fn block(&self, out: &mut [f32]) -> raw::Answered {
-        unsafe {
-            raw::threshreed_block(
-                self.session,
-                self.queue.as_ptr(),
-                self.queue.len(),
-                self.capture.as_ptr(),
-                self.capture.len(),
-                self.pool.as_ptr(),
-                self.pool.len(),
-                out.as_mut_ptr(),
-                out.len(),
-            )
-        }
+        raw::block(self.session, &self.queue, &self.capture, &self.pool, out)
     }
 }
