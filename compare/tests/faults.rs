@@ -46,26 +46,28 @@ fn every_fault_is_found() {
 
 /// How many sessions it takes to find a fault; none if the gate's do not.
 fn sessions_needed(fault: &Fault) -> Option<u64> {
-    let folder = Path::new(env!("CARGO_TARGET_TMPDIR")).join(fault.name);
-    let cargo = env::var("CARGO").expect("cargo runs the tests");
-    let built = Command::new(cargo)
-        .args(["build", "--profile", "fault", "--bin", "sessions"])
+    let built = cargo("build", fault).output().expect("cargo can be run");
+    let errors = String::from_utf8_lossy(&built.stderr);
+    assert!(built.status.success(), "{errors}");
+
+    let told = told(cargo("run", fault).args(["--", &GATE.to_string()]));
+    let seed = told.strip_prefix("session ")?.split(',').next()?;
+    Some(seed.parse::<u64>().expect("a seed is a number") + 1)
+}
+
+/// A command of cargo's over the sessions with a fault planted. Cargo gives way to the program that it runs.
+fn cargo(command: &str, fault: &Fault) -> Command {
+    let mut cargo = Command::new(env::var("CARGO").expect("cargo runs the tests"));
+    cargo
+        .args([command, "--profile", "fault", "--bin", "sessions"])
         .args([
             "--manifest-path",
             concat!(env!("CARGO_MANIFEST_DIR"), "/Cargo.toml"),
         ])
         .arg("--target-dir")
-        .arg(&folder)
-        .env("TONO_FAULT", fault.name)
-        .output();
-    let built = built.expect("cargo can be run");
-    let errors = String::from_utf8_lossy(&built.stderr);
-    assert!(built.status.success(), "{errors}");
-
-    let mut sessions = Command::new(folder.join("fault/sessions"));
-    let told = told(sessions.arg(GATE.to_string()));
-    let seed = told.strip_prefix("session ")?.split(',').next()?;
-    Some(seed.parse::<u64>().expect("a seed is a number") + 1)
+        .arg(Path::new(env!("CARGO_TARGET_TMPDIR")).join(fault.name))
+        .env("TONO_FAULT", fault.name);
+    cargo
 }
 
 /// What a program tells. It is ended if it takes too long, since a fault may never end.
