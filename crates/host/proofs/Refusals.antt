@@ -1,29 +1,51 @@
--- What a refused call hands back to a host: a session that matches the one that the call leaves, and where the host's own numbers are refused, that number alone. Assumes nothing.
+-- What a refused call hands back to a host: its number alone, with the very session that came but for 15's count, and every store. Assumes nothing.
 use mathlib.Core.Path.{_≡_, refl, sym, ap, _∙_}
-use mathlib.Core.Bool.{Bool, true, false, _&&_, cond}
+use mathlib.Core.Bool.{Bool, true, false, cond}
 use mathlib.Core.List.{List}
 use mathlib.Core.Logic.{_⊎_, inl, inr}
-use Prim.Native.Nat.{ℕ, _+_, _-_, _^_, min}
-use native.Mathlib.Omega.{arith}
+use Prim.Native.Nat.{ℕ, zero, suc, _+_, _-_, _^_, min}
 use lib.Dec.{eqb}
 use lib.Ieee.{Float}
 use borrow.Author.Tests.{ne-eqb}
 use Rattle.counts.specs.declared.SongFrame.{SongFrame}
 use Rattle.counts.specs.declared.Handle.{Handle}
 use Rattle.session.specs.declared.Refusal.{Refusal}
-use Rattle.session.specs.Refusal.{numberOf}
+use Rattle.session.specs.declared.Weighed.{Weighed}
+use Rattle.session.specs.Refusal.{numberOf, unless}
 use Rattle.session.specs.Session.{turnedAway}
 use Rattle.session.specs.WellFormed.{wellFormed}
-use Rattle.submission.specs.Replay.{reportOf}
+use Rattle.session.proofs.Refuse.{refused-or-done}
+use Rattle.clips.specs.Load.{loadOf}
+use Rattle.clips.specs.Retire.{retireOf}
+use Rattle.submission.specs.Submit.{taken, submitOf}
+use Rattle.submission.specs.Transition.{transitionOf}
+use Rattle.submission.specs.Replay.{replayOf}
+use Rattle.block.specs.Block.{blockOf}
+use Rattle.control.specs.Capture.{startCaptureOf, stopCaptureOf}
+use Rattle.control.specs.Snapshot as control
+use Rattle.control.specs.Metrics.{metricsOf}
 use Rattle.host.specs.declared.HostSession.{HostSession}
 use Rattle.host.specs.declared.HostCommand.{HostCommand}
 use Rattle.host.specs.declared.HostAt.{HostAt}
 use Rattle.host.specs.declared.HostSnapshot.{HostSnapshot}
-use Rattle.host.specs.Kept.{isKind, noHandle, isSession, sessionOf}
-use Rattle.host.specs.Arguments.{isSubmission, isAt, isSnapshot}
-use Rattle.host.specs.Answers.{withDropped, turned, weighHost, unless, answered, loaded, submitted, replayed, stopped, noSnapshot, snapped, noMetrics, metered}
+use Rattle.host.specs.declared.HostAnswered.{HostAnswered}
+use Rattle.host.specs.declared.HostLoaded.{HostLoaded}
+use Rattle.host.specs.declared.HostSubmitted.{HostSubmitted}
+use Rattle.host.specs.declared.HostReplayed.{HostReplayed}
+use Rattle.host.specs.declared.HostStopped.{HostStopped}
+use Rattle.host.specs.declared.HostSnapped.{HostSnapped}
+use Rattle.host.specs.declared.HostMetrics.{HostMetrics}
+use Rattle.host.specs.Kept.{isSession, sessionOf}
+use Rattle.host.specs.Answers.{withDropped, turned, weighHost, unless as unlessHost, refused, answeredBy, loadRefused, loadedBy, submitRefused, submittedBy, replayRefused, replayedBy, stopRefused, stoppedBy, snapshotRefused, snappedBy, metricsRefused, meteredBy}
 use Rattle.host.specs.Calls.{loadHost, retireHost, submitHost, transitionHost, replayHost, blockHost, startCaptureHost, stopCaptureHost, snapshotHost, applyHost, metricsHost}
-use Rattle.host.proofs.Weighed.{call-refused}
+
+-- beside a lent store,
+abbrev pub withStore : {A B S : Type 0} → (A → B) → A × S → B × S
+withStore f z = (f (z .0), z .1)
+
+-- or two
+abbrev pub withStores : {A B S R : Type 0} → (A → B) → A × S × R → B × S × R
+withStores f z = (f (z .0), z .1, z .2)
 
 -- it matches the session turned away, with 15 counted in both,
 pub turned-matches : (k : Refusal) (h : HostSession) → sessionOf (turned (numberOf k) h) ≡ turnedAway k (sessionOf h)
@@ -50,93 +72,85 @@ module _ (h : HostSession) (q c : List ℕ) where
   unfolding weighHost
   weighed-fine named e f = rw (e, f)
 
-  -- and what is weighed is 0, 1 or 22,
-  pub weighed : (named : Bool) → (weighHost h q c named ≡ 0) ⊎ (weighHost h q c named ≡ 1) ⊎ (weighHost h q c named ≡ 22)
+  -- what names no case is 255 where the session is well formed,
+  pub weighed-unnamed : isSession h ≡ true → wellFormed (sessionOf h) q c ≡ true → weighHost h q c false ≡ 255
+  unfolding weighHost
+  weighed-unnamed e f = rw (e, f)
+
+  -- and what is weighed is 0, 1 or 255
+  pub weighed : (named : Bool) → (weighHost h q c named ≡ 0) ⊎ (weighHost h q c named ≡ 1) ⊎ (weighHost h q c named ≡ 255)
   unfolding weighHost
   weighed named = go (isSession h) named (wellFormed (sessionOf h) q c)
     where
-      go : (a b d : Bool) → let n : ℕ = cond a (cond b 0 (cond d 22 1)) 1 in (n ≡ 0) ⊎ (n ≡ 1) ⊎ (n ≡ 22)
+      go : (a b d : Bool) → let n : ℕ = cond a (cond b 0 (cond d 255 1)) 1 in (n ≡ 0) ⊎ (n ≡ 1) ⊎ (n ≡ 255)
       go true true d = inl refl
       go true false true = inr (inr refl)
       go true false false = inr (inl refl)
       go false b d = inr (inl refl)
 
-  -- so never 15
-  uncounted : (named : Bool) → weighHost h q c named ≡ 15 → ⊥
-  uncounted named e = go (weighed named)
-    where
-      go : (weighHost h q c named ≡ 0) ⊎ (weighHost h q c named ≡ 1) ⊎ (weighHost h q c named ≡ 22) → ⊥
-      go (inl f) = omega arith
-      go (inr (inl f)) = omega arith
-      go (inr (inr f)) = omega arith
+-- ---- what is refused, by whichever number
 
-  -- one law for every call: where they are refused, it gives their number and the very session that came
-  pub stays : {A : Type 0} (named : Bool) (give : ℕ → HostSession → A) (done : A)
-      → (weighHost h q c named ≡ 0 → ⊥) → unless (weighHost h q c named) (λ n. give n (turned n h)) done ≡ give (weighHost h q c named) h
-  stays named give done e = sym (call-refused (weighHost h q c named) _ _ _ refl e refl) ∙ ap (give (weighHost h q c named)) (turned-same (weighHost h q c named) h (uncounted named))
+-- one law for every call: where what a host reads is not 0, it reads that number, and has what is given for it
+pub stays : {A B : Type 0} (number : B → ℕ) (give : ℕ → B) (host : A → B) (n : ℕ) (w : Weighed) (refusal : Refusal → A) (done : A)
+    → ((m : ℕ) → number (give m) ≡ m) → ((k : Refusal) → host (refusal k) ≡ give (numberOf k)) → number (host done) ≡ 0
+    → let z : B = unlessHost n give (host (unless w refusal done)) in (number z ≡ 0 → ⊥) → z ≡ give (number z)
+unfolding unlessHost
+stays number give host zero w refusal done told refuses does = refused-or-done w refusal done (λ a. (number (host a) ≡ 0 → ⊥) → host a ≡ give (number (host a))) (λ k e other. refuses k ∙ ap give (sym (ap number (refuses k) ∙ told (numberOf k)))) (λ fine other. absurd (other does))
+stays number give host (suc n) w refusal done told refuses does = λ other. ap give (sym (told (suc n)))
 
-  -- and so, with every store as it was, a load,
-  pub load-stays : (pool samples : List Float) (kind : ℕ) (extent : SongFrame) (rate : ℕ) → (weighHost h q c (isKind kind) ≡ 0 → ⊥)
-      → loadHost h q c pool samples kind extent rate ≡ (loaded (weighHost h q c (isKind kind)) noHandle h, pool)
-  unfolding loadHost
-  load-stays pool samples kind extent rate = stays (isKind kind) (λ n t. (loaded n noHandle t, pool)) _
+-- and so, with the very session that came but for 15's count, no value, and every store as it was, a load,
+module _ (h : HostSession) (q c : List ℕ) where
+  pub load-stays : (pool samples : List Float) (kind : ℕ) (extent : SongFrame) (rate : ℕ)
+      → let z : HostLoaded × List Float = loadHost h q c pool samples kind extent rate in (z .0 .refusal ≡ 0 → ⊥) → z ≡ (loadRefused h (z .0 .refusal), pool)
+  unfolding loadHost loadOf
+  load-stays pool samples kind extent rate = stays (λ z. z .0 .refusal) (λ n. (loadRefused h n, pool)) (withStore (loadedBy h)) _ _ _ _ (λ m. refl) (λ k. refl) refl
 
   -- a retirement,
-  pub retire-stays : (x : Handle) → (weighHost h q c true ≡ 0 → ⊥)
-      → retireHost h q c x ≡ answered (weighHost h q c true) h
-  unfolding retireHost
-  retire-stays x = stays true answered _
+  pub retire-stays : (x : Handle) → let z : HostAnswered = retireHost h q c x in (z .refusal ≡ 0 → ⊥) → z ≡ refused h (z .refusal)
+  unfolding retireHost retireOf
+  retire-stays x = stays (λ z. z .refusal) (refused h) (answeredBy h) _ _ _ _ (λ m. refl) (λ k. refl) refl
 
   -- a submission,
-  pub submit-stays : (x : HostCommand) (at : HostAt) → (weighHost h q c (isSubmission x && isAt at) ≡ 0 → ⊥)
-      → submitHost h q c x at ≡ (submitted (weighHost h q c (isSubmission x && isAt at)) 0 h, q, c)
-  unfolding submitHost
-  submit-stays x at = stays (isSubmission x && isAt at) (λ n t. (submitted n 0 t, q, c)) _
+  pub submit-stays : (x : HostCommand) (at : HostAt) → let z : HostSubmitted × List ℕ × List ℕ = submitHost h q c x at in (z .0 .refusal ≡ 0 → ⊥) → z ≡ (submitRefused h (z .0 .refusal), q, c)
+  unfolding submitHost submitOf taken
+  submit-stays x at = stays (λ z. z .0 .refusal) (λ n. (submitRefused h n, q, c)) (withStores (submittedBy h)) _ _ _ _ (λ m. refl) (λ k. refl) refl
 
   -- a transition,
-  pub transition-stays : (f : SongFrame) (at : HostAt) → (weighHost h q c (isAt at) ≡ 0 → ⊥)
-      → transitionHost h q c f at ≡ (submitted (weighHost h q c (isAt at)) 0 h, q, c)
-  unfolding transitionHost
-  transition-stays f at = stays (isAt at) (λ n t. (submitted n 0 t, q, c)) _
+  pub transition-stays : (f : SongFrame) (at : HostAt) → let z : HostSubmitted × List ℕ × List ℕ = transitionHost h q c f at in (z .0 .refusal ≡ 0 → ⊥) → z ≡ (submitRefused h (z .0 .refusal), q, c)
+  unfolding transitionHost transitionOf taken
+  transition-stays f at = stays (λ z. z .0 .refusal) (λ n. (submitRefused h n, q, c)) (withStores (submittedBy h)) _ _ _ _ (λ m. refl) (λ k. refl) refl
 
   -- a replay,
-  pub replay-stays : (list : List ℕ) → (weighHost h q c true ≡ 0 → ⊥)
-      → replayHost h q c list ≡ (replayed (weighHost h q c true) (reportOf 0 0 0) h, q)
-  unfolding replayHost
-  replay-stays list = stays true (λ n t. (replayed n (reportOf 0 0 0) t, q)) _
+  pub replay-stays : (list : List ℕ) → let z : HostReplayed × List ℕ = replayHost h q c list in (z .0 .refusal ≡ 0 → ⊥) → z ≡ (replayRefused h (z .0 .refusal), q)
+  unfolding replayHost replayOf
+  replay-stays list = stays (λ z. z .0 .refusal) (λ n. (replayRefused h n, q)) (withStore (replayedBy h)) _ _ _ _ (λ m. refl) (λ k. refl) refl
 
   -- a block,
-  pub block-stays : (pool out : List Float) → (weighHost h q c true ≡ 0 → ⊥)
-      → blockHost h q c pool out ≡ (answered (weighHost h q c true) h, out)
-  unfolding blockHost
-  block-stays pool out = stays true (λ n t. (answered n t, out)) _
+  pub block-stays : (pool out : List Float) → let z : HostAnswered × List Float = blockHost h q c pool out in (z .0 .refusal ≡ 0 → ⊥) → z ≡ (refused h (z .0 .refusal), out)
+  unfolding blockHost blockOf
+  block-stays pool out = stays (λ z. z .0 .refusal) (λ n. (refused h n, out)) (withStore (answeredBy h)) _ _ _ _ (λ m. refl) (λ k. refl) refl
 
   -- starting capture,
-  pub start-stays : (weighHost h q c true ≡ 0 → ⊥)
-      → startCaptureHost h q c ≡ answered (weighHost h q c true) h
-  unfolding startCaptureHost
-  start-stays = stays true answered _
+  pub start-stays : let z : HostAnswered = startCaptureHost h q c in (z .refusal ≡ 0 → ⊥) → z ≡ refused h (z .refusal)
+  unfolding startCaptureHost startCaptureOf
+  start-stays = stays (λ z. z .refusal) (refused h) (answeredBy h) _ _ _ _ (λ m. refl) (λ k. refl) refl
 
   -- stopping it,
-  pub stop-stays : (list : List ℕ) → (weighHost h q c true ≡ 0 → ⊥)
-      → stopCaptureHost h q c list ≡ (stopped (weighHost h q c true) 0 h, list)
-  unfolding stopCaptureHost
-  stop-stays list = stays true (λ n t. (stopped n 0 t, list)) _
+  pub stop-stays : (list : List ℕ) → let z : HostStopped × List ℕ = stopCaptureHost h q c list in (z .0 .refusal ≡ 0 → ⊥) → z ≡ (stopRefused h (z .0 .refusal), list)
+  unfolding stopCaptureHost stopCaptureOf
+  stop-stays list = stays (λ z. z .0 .refusal) (λ n. (stopRefused h n, list)) (withStore (stoppedBy h)) _ _ _ _ (λ m. refl) (λ k. refl) refl
 
   -- a snapshot,
-  pub snapshot-stays : (weighHost h q c true ≡ 0 → ⊥)
-      → snapshotHost h q c ≡ snapped (weighHost h q c true) noSnapshot h
-  unfolding snapshotHost
-  snapshot-stays = stays true (λ n t. snapped n noSnapshot t) _
+  pub snapshot-stays : let z : HostSnapped = snapshotHost h q c in (z .refusal ≡ 0 → ⊥) → z ≡ snapshotRefused h (z .refusal)
+  unfolding snapshotHost control.snapshotOf
+  snapshot-stays = stays (λ z. z .refusal) (snapshotRefused h) (snappedBy h) _ _ _ _ (λ m. refl) (λ k. refl) refl
 
   -- applying one,
-  pub apply-stays : (x : HostSnapshot) → (weighHost h q c (isSnapshot x) ≡ 0 → ⊥)
-      → applyHost h q c x ≡ answered (weighHost h q c (isSnapshot x)) h
-  unfolding applyHost
-  apply-stays x = stays (isSnapshot x) answered _
+  pub apply-stays : (x : HostSnapshot) → let z : HostAnswered = applyHost h q c x in (z .refusal ≡ 0 → ⊥) → z ≡ refused h (z .refusal)
+  unfolding applyHost control.applyOf
+  apply-stays x = stays (λ z. z .refusal) (refused h) (answeredBy h) _ _ _ _ (λ m. refl) (λ k. refl) refl
 
   -- and the metrics
-  pub metrics-stays : (weighHost h q c true ≡ 0 → ⊥)
-      → metricsHost h q c ≡ metered (weighHost h q c true) noMetrics h
-  unfolding metricsHost
-  metrics-stays = stays true (λ n t. metered n noMetrics t) _
+  pub metrics-stays : let z : HostMetrics = metricsHost h q c in (z .refusal ≡ 0 → ⊥) → z ≡ metricsRefused h (z .refusal)
+  unfolding metricsHost metricsOf
+  metrics-stays = stays (λ z. z .refusal) (metricsRefused h) (meteredBy h) _ _ _ _ (λ m. refl) (λ k. refl) refl

@@ -1,23 +1,23 @@
 -- A session that goes to a host and comes back is the same session; a host's session that comes and goes back is the same but for what is not used. Assumes nothing.
 use mathlib.Core.Path.{_≡_, refl, sym, ap, _∙_}
-use mathlib.Core.Bool.{Bool, true, false, not, _&&_}
+use mathlib.Core.Bool.{Bool, true, false, not, _&&_, _||_, cond}
 use mathlib.Core.List.{List, [], _∷_, map}
 use mathlib.Core.Logic.{_⊎_, inl, inr}
-use Prim.Native.Nat.{ℕ, zero, suc, _<_, _≤_}
+use Prim.Native.Nat.{ℕ, zero, suc, _+_, _<_, _≤_}
 use native.Mathlib.Omega.{arith}
 use lib.Dec.{eqb, leb}
 use lib.Ieee.{Float}
-use lib.ListN.{length, getD, List·getD-map}
+use lib.ListN.{length, getD}
 use borrow.Author.Tests.{leb-true, eqb-true}
-use Rattle.counts.specs.Below.{within, allBelow}
-use Rattle.counts.proofs.Truth.{never, and-true, and-l, and-r, or-cases}
+use Rattle.counts.specs.Below.{within}
+use Rattle.counts.proofs.Truth.{two-ways, never, and-true, and-l, and-r, cond-both}
 use Rattle.counts.proofs.Below.{all-true, all-at, all-same}
 use Rattle.counts.specs.declared.SongFrame.{SongFrame}
 use Rattle.counts.specs.declared.Handle.{Handle}
 use Rattle.ramp.specs.Number.{zero32}
 use Rattle.bank.specs.declared.Kind.{Kind}
 use Rattle.bank.specs.declared.Clip.{Clip}
-use Rattle.bank.specs.Slots.{extentOf}
+use Rattle.bank.specs.Slots.{extentOf, usedAt}
 use Rattle.transport.specs.declared.TransportState.{TransportState}
 use Rattle.timeline.specs.declared.Submission.{Submission}
 use Rattle.timeline.specs.Command.{commandOf}
@@ -33,7 +33,7 @@ use Rattle.host.specs.declared.HostTail.{HostTail}
 use Rattle.host.specs.declared.HostSession.{HostSession}
 use Rattle.host.specs.declared.HostCommand.{HostCommand}
 use Rattle.host.specs.declared.HostAt.{HostAt}
-use Rattle.host.specs.Kept.{isKind, kindOf, kindNumber, clipOf, clipNumbers, isState, stateOf, stateNumber, isFlag, flagOf, flagNumber, loopOf, loopNumbers, tailOf, tailNumbers, noHandle, blankClip, kindsOk, isSession, sessionOf, hostOf, tidyClip, tidyLoop, tidyTail, tidy}
+use Rattle.host.specs.Kept.{isKind, kindOf, kindNumber, clipOf, clipNumbers, isState, stateOf, stateNumber, isFlag, flagOf, flagNumber, loopOf, loopNumbers, tailOf, tailNumbers, noHandle, blankClip, slotNamed, kindsOk, isSession, sessionOf, hostOf, tidyClip, tidySlots, tidyLoop, tidyTail, tidy}
 use Rattle.host.specs.Arguments.{isSubmission, submissionOf, isAt, atOf, isSnapshot, snapshotOf, snapshotNumbers}
 
 -- ---- a session to its host and back
@@ -117,6 +117,11 @@ clips-named [] i = refl
 clips-named (c ∷ cs) zero = kind-named (c .kind)
 clips-named (c ∷ cs) (suc i) = clips-named cs i
 
+-- what holds a song or a stinger names one, used or not
+slot-named : (u i kind : ℕ) → isKind kind ≡ true → slotNamed u i kind ≡ true
+unfolding slotNamed
+slot-named u i kind e = cond-both (λ b. b ≡ true) (usedAt u i) (isKind kind) true e refl
+
 -- so a host's session that a session gives is never refused for its numbers,
 pub names : (s : Session) → isSession (hostOf s) ≡ true
 unfolding isSession kindsOk hostOf
@@ -124,7 +129,7 @@ names s =
     and-true
     (and-true
     (and-true
-    (and-true (all-true _ 32 (λ i l. clips-named (s .bank .clips) i)) (state-named (s .stage .playhead .transport .state)))
+    (and-true (all-true _ 32 (λ i l. slot-named (s .bank .used) i _ (clips-named (s .bank .clips) i))) (state-named (s .stage .playhead .transport .state)))
     (loop-named (s .stage .playhead .transport .looped)))
     (tail-named (s .stage .sound .fade .tail)))
     (flag-named (s .desk .capturing))
@@ -135,16 +140,26 @@ snapshot-names x = and-true (state-named (x .state)) (loop-named (x .looped))
 
 -- ---- a host's session to a session and back
 
-clip-tidy : (c : HostClip) → isKind (c .kind) ≡ true → clipNumbers (clipOf c) ≡ tidyClip c
-clip-tidy c e = go (or-cases (eqb (c .kind) 1) (eqb (c .kind) 2) e)
+-- a clip comes back as it was, its kind too if its slot is used,
+clip-tidy : (used : Bool) (c : HostClip) → cond used (isKind (c .kind)) true ≡ true → clipNumbers (clipOf c) ≡ tidyClip used c
+clip-tidy used c e = go used (two-ways (eqb (c .kind) 1)) e
   where
-    go : (eqb (c .kind) 1 ≡ true) ⊎ (eqb (c .kind) 2 ≡ true) → clipNumbers (clipOf c) ≡ tidyClip c
-    go (inl song) = let n : c .kind ≡ 1 = eqb-true (c .kind) 1 song in rw n
-    go (inr stinger) = let n : c .kind ≡ 2 = eqb-true (c .kind) 2 stinger in rw n
+    song : eqb (c .kind) 1 ≡ true → c .kind ≡ 1
+    song = eqb-true (c .kind) 1
 
-clips-tidy : (cs : List HostClip) → ((i : ℕ) → i < length cs → isKind (getD cs i blankClip .kind) ≡ true) → map clipNumbers (map clipOf cs) ≡ map tidyClip cs
-clips-tidy [] e = refl
-clips-tidy (c ∷ cs) e = rw (clip-tidy c (e 0 (omega arith)), clips-tidy cs (λ i l. e (suc i) (omega arith)))
+    go : (used : Bool) → (eqb (c .kind) 1 ≡ true) ⊎ (eqb (c .kind) 1 ≡ false) → cond used (isKind (c .kind)) true ≡ true → clipNumbers (clipOf c) ≡ tidyClip used c
+    go true (inl is) e = rw (song is)
+    go false (inl is) e = rw (song is)
+    go true (inr not) e = let stinger : c .kind ≡ 2 = eqb-true (c .kind) 2 (ap (λ b. b || eqb (c .kind) 2) (sym not) ∙ e) in rw stinger
+    go false (inr not) e = rw not
+
+-- and so do the slots from i on
+slots-tidy : (u i : ℕ) (cs : List HostClip) → ((k j : ℕ) → j ≡ i + k → k < length cs → slotNamed u j (getD cs k blankClip .kind) ≡ true)
+    → map clipNumbers (map clipOf cs) ≡ tidySlots u i cs
+unfolding slotNamed tidySlots
+slots-tidy u i [] e = refl
+slots-tidy u i (c ∷ cs) e =
+    rw (clip-tidy (usedAt u i) c (e 0 i (omega arith) (omega arith)), slots-tidy u (suc i) cs (λ k j p l. e (suc k) j (omega arith) (omega arith)))
 
 state-tidy : (n : ℕ) → isState n ≡ true → stateNumber (stateOf n) ≡ n
 state-tidy zero e = refl
@@ -172,16 +187,16 @@ tail-tidy x =
 
 -- each number names a case
 record Named (h : HostSession) : Type 0 where
-  kinds : allBelow 32 (λ i. isKind (getD (h .clips) i blankClip .kind)) ≡ true
+  kinds : kindsOk h ≡ true
   state : isState (h .state) ≡ true
   looped : isFlag (h .looped .set) ≡ true
   tail : isFlag (h .tail .sounding) ≡ true
   capturing : isFlag (h .capturing) ≡ true
 
 named : (h : HostSession) → isSession h ≡ true → Named h
-unfolding isSession kindsOk
+unfolding isSession
 named h e =
-    let kinds : Bool = allBelow 32 (λ i. isKind (getD (h .clips) i blankClip .kind)) in
+    let kinds : Bool = kindsOk h in
     let state : Bool = isState (h .state) in
     let looped : Bool = isFlag (h .looped .set) in
     let tail : Bool = isFlag (h .tail .sounding) in
@@ -198,11 +213,11 @@ named h e =
 
 -- where each number names a case, the session that it matches is the same, with what is not used as 0
 pub back-and-there : (h : HostSession) → length (h .clips) ≡ 32 → isSession h ≡ true → hostOf (sessionOf h) ≡ tidy h
-unfolding sessionOf hostOf tidy
+unfolding sessionOf hostOf tidy kindsOk
 back-and-there h size e =
     let n : Named h = named h e in
     rw (
-      clips-tidy (h .clips) (λ i l. all-at _ 32 i (n .kinds) (omega arith)),
+      slots-tidy (h .used) 0 (h .clips) (λ k j p l. let e : j ≡ k = omega arith in rw e (all-at _ 32 k (n .kinds) (omega arith))),
       state-tidy (h .state) (n .state),
       loop-tidy (h .looped) (n .looped),
       tail-tidy (h .tail) (n .tail),
@@ -211,13 +226,21 @@ back-and-there h size e =
 
 -- ---- what is refused for its numbers is matched by no session
 
-clips-keep : (cs : List HostClip) (i : ℕ) → isKind (getD (map tidyClip cs) i blankClip .kind) ≡ isKind (getD cs i blankClip .kind)
-clips-keep cs i = ap (λ (c : HostClip). isKind (c .kind)) (List·getD-map tidyClip cs i blankClip)
+-- a used slot keeps its kind
+slots-keep : (u i : ℕ) (cs : List HostClip) (k j : ℕ) → j ≡ i + k → slotNamed u j (getD (tidySlots u i cs) k blankClip .kind) ≡ slotNamed u j (getD cs k blankClip .kind)
+unfolding slotNamed tidySlots
+slots-keep u i [] k j p = refl
+slots-keep u i (c ∷ cs) zero j p = let q : j ≡ i = omega arith in rw q (same (usedAt u i))
+  where
+    same : (used : Bool) → cond used (isKind (tidyClip used c .kind)) true ≡ cond used (isKind (c .kind)) true
+    same true = refl
+    same false = refl
+slots-keep u i (c ∷ cs) (suc k) j p = slots-keep u (suc i) cs k j (omega arith)
 
 -- what is not used has no part in it
 pub tidy-names : (h : HostSession) → isSession (tidy h) ≡ isSession h
 unfolding isSession kindsOk tidy
-tidy-names h = rw (all-same _ _ 32 (λ i l. clips-keep (h .clips) i))
+tidy-names h = rw (all-same _ _ 32 (λ i l. slots-keep (h .used) 0 (h .clips) i i (omega arith)))
 
 -- a host's session that some session gives, but for what is not used, has numbers that each name a case
 pub matched : (s : Session) (h : HostSession) → hostOf s ≡ tidy h → isSession h ≡ true

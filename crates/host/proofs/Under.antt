@@ -58,7 +58,7 @@ use Rattle.host.specs.Arguments.{isSubmission, submissionOf, isAt, atOf,
 use Rattle.host.specs.Answers.{turned, weighHost, unless as unlessHost, answeredBy, loadedBy, openedBy, submittedBy, replayedBy, stoppedBy, snappedBy, meteredBy}
 use Rattle.host.specs.Calls.{openHost, loadHost, retireHost, submitHost, transitionHost, replayHost, blockHost, startCaptureHost, stopCaptureHost, snapshotHost, applyHost, metricsHost}
 use Rattle.host.proofs.Round.{there-and-back, snapshot-back}
-use Rattle.host.proofs.Refusals.{turned-matches, turned-same}
+use Rattle.host.proofs.Refusals.{withStore, withStores, turned-matches, turned-same}
 
 -- ---- what a host reads, in the rules' terms
 
@@ -114,14 +114,6 @@ readMetrics r = (saysBy (r .refusal) (r .metrics), sessionOf (r .session))
 
 abbrev pub toldMetrics : MetricsAnswered → Says PerformanceMetrics × Session
 toldMetrics r = (saysMetrics (r .answer), r .session)
-
--- beside a lent store,
-abbrev pub withStore : {A B S : Type 0} → (A → B) → A × S → B × S
-withStore f z = (f (z .0), z .1)
-
--- or two
-abbrev pub withStores : {A B S R : Type 0} → (A → B) → A × S × R → B × S × R
-withStores f z = (f (z .0), z .1, z .2)
 
 -- ---- what is refused
 

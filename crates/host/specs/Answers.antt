@@ -67,9 +67,9 @@ withDropped h n =
 unfoldable pub turned : ℕ → HostSession → HostSession
 turned n h = cond (eqb n 15) (withDropped h (min (h .dropped + 1) (2 ^ 64 - 1))) h
 
--- 1 if no session matches; of an argument that names no case 1 if the session is not well formed, else the host's own 22; else 0
+-- 1 if no session matches; of an argument that names no case 1 if the session is not well formed, else the host's own 255; else 0
 unfoldable pub weighHost : HostSession → List ℕ → List ℕ → Bool → ℕ
-weighHost h q c named = cond (isSession h) (cond named 0 (cond (wellFormed (sessionOf h) q c) 22 1)) 1
+weighHost h q c named = cond (isSession h) (cond named 0 (cond (wellFormed (sessionOf h) q c) 255 1)) 1
 
 -- what a call gives: something for its number, or for 0 what it does
 unfoldable pub unless {ℓ} : {A : Type ℓ} → ℕ → (ℕ → A) → A → A

@@ -1,7 +1,7 @@
 -- A session as a host keeps it: each case is a number. Definitions only.
-use Prim.Native.Nat.{ℕ}
-use mathlib.Core.Bool.{Bool, _&&_, _||_, cond}
-use mathlib.Core.List.{map}
+use Prim.Native.Nat.{ℕ, suc}
+use mathlib.Core.Bool.{Bool, true, _&&_, _||_, cond}
+use mathlib.Core.List.{List, [], _∷_, map}
 use lib.Dec.{eqb, leb}
 use lib.ListN.{getD}
 use Rattle.counts.specs.Below.{allBelow}
@@ -11,7 +11,7 @@ use Rattle.ramp.specs.Number.{zero32}
 use Rattle.ramp.specs.Ramp.{atRest}
 use Rattle.bank.specs.declared.Kind.{Kind}
 use Rattle.bank.specs.declared.Clip.{Clip}
-use Rattle.bank.specs.Slots.{extentOf}
+use Rattle.bank.specs.Slots.{extentOf, usedAt}
 use Rattle.transport.specs.declared.TransportState.{TransportState}
 use Rattle.transport.specs.declared.LoopRange.{LoopRange}
 use Rattle.stage.specs.declared.Tail.{Tail}
@@ -100,9 +100,13 @@ tailNumbers (Tail.Sounding h c w) = record { sounding = 1; song = h; cursor = c;
 abbrev pub blankClip : HostClip
 blankClip = record { serial = 0; kind = 2; extent = record { 0 = 0 }; start = 0; frames = 0; rate = 0 }
 
--- every slot holds a song or a stinger
+-- slot i of those marked in u holds a song or a stinger; if it is not used, its kind may be any number
+unfoldable pub slotNamed : ℕ → ℕ → ℕ → Bool
+slotNamed u i kind = cond (usedAt u i) (isKind kind) true
+
+-- every used slot holds a song or a stinger
 unfoldable pub kindsOk : HostSession → Bool
-kindsOk h = allBelow 32 (λ i. isKind (getD (h .clips) i blankClip .kind))
+kindsOk h = allBelow 32 (λ i. slotNamed (h .used) i (getD (h .clips) i blankClip .kind))
 
 -- there is a session that it matches: each number names a case
 unfoldable pub isSession : HostSession → Bool
@@ -169,17 +173,22 @@ hostOf s =
 
 -- ---- what is not used is 0
 
--- a stinger's length
-abbrev pub tidyClip : HostClip → HostClip
-tidyClip c =
+-- a stinger's length; and in a slot that is not used, any kind but a song's is a stinger's
+abbrev pub tidyClip : Bool → HostClip → HostClip
+tidyClip used c =
     record {
       serial = c .serial;
-      kind = c .kind;
+      kind = cond (used || eqb (c .kind) 1) (c .kind) 2;
       extent = cond (eqb (c .kind) 1) (c .extent) (record { 0 = 0 });
       start = c .start;
       frames = c .frames;
       rate = c .rate;
     }
+
+-- the slots from i on, those marked in u being used
+unfoldable pub tidySlots : ℕ → ℕ → List HostClip → List HostClip
+tidySlots u i [] = []
+tidySlots u i (c ∷ cs) = tidyClip (usedAt u i) c ∷ tidySlots u (suc i) cs
 
 -- the ends of a loop that is not set
 abbrev pub tidyLoop : HostLoop → HostLoop
@@ -207,7 +216,7 @@ tidy h =
       settings = h .settings;
       used = h .used;
       last = h .last;
-      clips = map tidyClip (h .clips);
+      clips = tidySlots (h .used) 0 (h .clips);
       clock = h .clock;
       state = h .state;
       position = h .position;

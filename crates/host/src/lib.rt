@@ -1,9 +1,9 @@
 //! The calls for C and Rust: a session without enums, by value in and out, and an exported function for each call.
 ghost use mathlib.Core.Path.{_≡_};
 ghost use mathlib.Core.List.{List, map};
-ghost use Prim.Native.Nat.{ℕ};
+ghost use Prim.Native.Nat.{ℕ, _<_};
 ghost use lib.Ieee.{Float};
-ghost use Rattle.host.specs.Kept.{isKind, kindOf, kindNumber, clipOf, clipNumbers, isState, stateOf, stateNumber, isFlag, flagOf, flagNumber, loopOf, loopNumbers, tailOf, tailNumbers, kindsOk, isSession, stageOf, sessionOf, hostOf};
+ghost use Rattle.host.specs.Kept.{isKind, kindOf, kindNumber, clipOf, clipNumbers, isState, stateOf, stateNumber, isFlag, flagOf, flagNumber, loopOf, loopNumbers, tailOf, tailNumbers, slotNamed, kindsOk, isSession, stageOf, sessionOf, hostOf};
 ghost use Rattle.host.specs.Arguments.{isSubmission, submissionOf, isAt, atOf, isSnapshot, snapshotOf, snapshotNumbers};
 ghost use Rattle.host.specs.Answers.{turned, weighHost, refused, answeredBy, loadRefused, loadedBy, openedBy, submitRefused, submittedBy, replayRefused, replayedBy, stopRefused, stoppedBy, noSnapshot, snapshotRefused, snappedBy, noMetrics, metricsRefused, meteredBy};
 ghost use Rattle.host.specs.Calls.{openHost, loadHost, retireHost, submitHost, transitionHost, replayHost, blockHost, startCaptureHost, stopCaptureHost, snapshotHost, applyHost, metricsHost};
@@ -53,10 +53,10 @@ pub const SONG: u32 = 1;
 /// A clip that is a stinger. A stinger has none.
 pub const STINGER: u32 = 2;
 
-/// The refusal of an argument that names no case, above the numbers 1 to 21.
-pub const NO_SUCH_CASE: u32 = 22;
+/// The refusal of an argument that names no case, above the numbers of the documents.
+pub const NO_SUCH_CASE: u32 = 255;
 
-/// A loaded clip: `extent` is a song's length, and is not used of a stinger.
+/// A clip: `extent` is a song's length, and is not used of a stinger. Nothing is used of a slot that holds none.
 #[repr(C)]
 pub struct HostClip {
     pub serial: u32,
@@ -341,14 +341,25 @@ fn tail_numbers(x: Tail) -> HostTail
 
 // ---- the session
 
-/// Every clip is a song or a stinger.
+/// A slot that is used holds a song or a stinger; the kind of one that is not may be any number.
+fn slot_named(used: u32, i: usize, kind: u32) -> bool
+    requires { ⌜ i < 32 ⌝ }
+    ensures { λ r. ⌜ r ≡ slotNamed used i kind ⌝ }
+{
+    if bank::is_used(used, i) {
+        return is_kind(kind);
+    }
+    true
+}
+
+/// Every used slot holds a song or a stinger.
 fn kinds_ok(h: HostSession) -> bool
     ensures { λ r. ⌜ r ≡ kindsOk h ⌝ }
 {
     let mut i: usize = 0;
     while i < 32 {
         let c = h.clips[i];
-        if is_kind(c.kind) {
+        if slot_named(h.used, i, c.kind) {
             i += 1;
         } else {
             return false;

@@ -8,22 +8,22 @@ use lib.ListN.{length, getD, length-map}
 use Rattle.counts.proofs.Below.{all-true, all-false}
 use Rattle.bank.proofs.Places.{getD-any}
 use Rattle.host.specs.declared.HostClip.{HostClip}
-use Rattle.host.specs.Kept.{isKind, blankClip, kindsOk}
+use Rattle.host.specs.Kept.{blankClip, slotNamed, kindsOk}
 use borrow.Author.Needs.{needs}
 use Rattle.host.proofs.kinds_ok.Statement.{statement}
 use Rattle.host.proofs.kinds_ok.Tie as tie
 
 abbrev Inv-loop : tie.InvT-loop
-Inv-loop h i₀ i = (i ≤ 32) × ((k : ℕ) → k < i → isKind (getD (h .clips) k blankClip .kind) ≡ true)
+Inv-loop h i₀ i = (i ≤ 32) × ((k : ℕ) → k < i → slotNamed (h .used) k (getD (h .clips) k blankClip .kind) ≡ true)
 
 abbrev μ-loop : tie.MeasureT-loop
 μ-loop h i₀ i = 32 - i
 
 -- there are 32 slots, and what stands in one does not turn on what is read past them
-at : (c : tie.Start Inv-loop μ-loop) (i : ℕ) (d : HostClip) → i < 32 → isKind (getD (c .args .t1 .clips) i blankClip .kind) ≡ isKind (getD (c .args .t1 .clips) i d .kind)
+at : (c : tie.Start Inv-loop μ-loop) (i : ℕ) (d : HostClip) → i < 32 → slotNamed (c .args .t1 .used) i (getD (c .args .t1 .clips) i blankClip .kind) ≡ slotNamed (c .args .t1 .used) i (getD (c .args .t1 .clips) i d .kind)
 at c i d h =
     let l : length (c .args .t1 .clips) ≡ 32 = sym (length-map (c .args .t1 .clips) _) ∙ c .good .0 .1 .1 .1 .1 .1 .0 .1 .0 .1 in
-    ap (λ (x : HostClip). isKind (x .kind)) (getD-any (c .args .t1 .clips) i blankClip d (omega arith))
+    ap (λ (x : HostClip). slotNamed (c .args .t1 .used) i (x .kind)) (getD-any (c .args .t1 .clips) i blankClip d (omega arith))
 
 loop-holds : tie.Need-loop-holds Inv-loop μ-loop
 loop-holds c = (search needs, below-none _)
@@ -34,8 +34,8 @@ mul-c c = search needs
 element-copy-out-c : tie.Need-element-copy-out-c Inv-loop μ-loop
 element-copy-out-c c = search needs
 
-is-kind-requires : tie.Need-is-kind-requires Inv-loop μ-loop
-is-kind-requires c κs = search needs
+slot-named-requires : tie.Need-slot-named-requires Inv-loop μ-loop
+slot-named-requires c κs = search needs
 
 add-i : tie.Need-add-i Inv-loop μ-loop
 add-i c = search needs
@@ -44,11 +44,11 @@ loop-less : tie.Need-loop-less Inv-loop μ-loop
 loop-less c = search needs
 
 loop-again : tie.Need-loop-again Inv-loop μ-loop
-loop-again c = (search needs, below-more _ _ (c .before .before .before .before .loop .inv .1) (at (c .before .before .before .before .before) (c .before .before .before .before .loop .i) _ (omega arith) ∙ sym (c .before .is-kind .ensures) ∙ c .if1 .taken))
+loop-again c = (search needs, below-more _ _ (c .before .before .before .before .loop .inv .1) (at (c .before .before .before .before .before) (c .before .before .before .before .loop .i) _ (omega arith) ∙ sym (c .before .slot-named .ensures) ∙ c .if1 .taken))
 
 returns : tie.Need-returns Inv-loop μ-loop
 unfolding kindsOk
-returns c = sym (all-false _ _ (c .before .before .before .before .loop .i) (c .before .before .before .loop-test .taken) (at (c .before .before .before .before .before) (c .before .before .before .before .loop .i) _ (omega arith) ∙ sym (c .before .is-kind .ensures) ∙ c .if1 .left))
+returns c = sym (all-false _ _ (c .before .before .before .before .loop .i) (c .before .before .before .loop-test .taken) (at (c .before .before .before .before .before) (c .before .before .before .before .loop .i) _ (omega arith) ∙ sym (c .before .slot-named .ensures) ∙ c .if1 .left))
 
 returns-2 : tie.Need-returns-2 Inv-loop μ-loop
 unfolding kindsOk
@@ -63,7 +63,7 @@ kinds-ok-spec =
     loop-holds
     mul-c
     element-copy-out-c
-    is-kind-requires
+    slot-named-requires
     add-i
     loop-less
     loop-again
