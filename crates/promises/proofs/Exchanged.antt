@@ -139,7 +139,7 @@ later-blocks a b x y f g e (out ∷ outs) =
 -- ---- either order
 
 -- a submission that is not refused is accepted
-accepts : (x : State) (y : Submission) (at : At) → refusal (submit y at) x ≡ 0 → accepted (submitOf (x .session) (x .queue) (x .capture) y at .0 .answer) ≡ true
+pub accepts : (x : State) (y : Submission) (at : At) → refusal (submit y at) x ≡ 0 → accepted (submitOf (x .session) (x .queue) (x .capture) y at .0 .answer) ≡ true
 accepts x y at = go (submitOf (x .session) (x .queue) (x .capture) y at .0 .answer)
   where
     go : (r : SubmitAnswer) → code (saysSubmit r) ≡ 0 → accepted r ≡ true

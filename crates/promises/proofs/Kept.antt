@@ -40,7 +40,7 @@ good : (x : State) → wellFormed (x .session) (x .queue) (x .capture) ≡ true 
 good x formed pooled t =
     record { formed = formed; pooled = pooled; slots = t .bank .bits; serials = t .bank .serials; clips = t .bank .places; voices = t .voices }
 
-types : (x : State) → Good x → Typed (x .session)
+pub types : (x : State) → Good x → Typed (x .session)
 types x g = record { bank = record { bits = g .slots; serials = g .serials; places = g .clips }; voices = g .voices }
 
 -- a call that leaves settings, bank, stage and pool leaves the types and the pool's length
@@ -101,7 +101,7 @@ keeps (apply y) x g p =
 keeps metrics x g p = rw (metrics-leave (x .session) (x .queue) (x .capture)) p
 
 -- an opening that is not refused weighs Fine
-open-fine : (o : Opening) → opened o .0 ≡ 0 → weighOpen (o .settings) (o .queue) (o .capture) (o .pool) (o .samples) (o .rate) (o .extent) ≡ Weighed.Fine
+pub open-fine : (o : Opening) → opened o .0 ≡ 0 → weighOpen (o .settings) (o .queue) (o .capture) (o .pool) (o .samples) (o .rate) (o .extent) ≡ Weighed.Fine
 unfolding openOf
 open-fine o =
     let w : Weighed = weighOpen (o .settings) (o .queue) (o .capture) (o .pool) (o .samples) (o .rate) (o .extent) in

@@ -36,7 +36,7 @@ row-leaves : (z : Replaying) (x : Row) → heart (replayRow z x .session) ≡ he
 unfolding replayRow
 row-leaves z x = unless-both {A = Replaying} _ _ _ (λ y. heart (y .session) ≡ heart (z .session)) (λ k. turned-leaves k (z .session)) (λ fine. refl)
 
-replayed-leaves : (s : Session) (q list : List ℕ) (n : ℕ) → heart (replayed s q list n .session) ≡ heart s
+pub replayed-leaves : (s : Session) (q list : List ℕ) (n : ℕ) → heart (replayed s q list n .session) ≡ heart s
 unfolding replayed
 replayed-leaves s q list zero = refl
 replayed-leaves s q list (suc n) = row-leaves (replayed s q list n) (rowAt list n) ∙ replayed-leaves s q list n

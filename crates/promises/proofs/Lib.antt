@@ -5,3 +5,14 @@ pub mod Tail
 pub mod Kept
 pub mod Never
 pub mod Exchanged
+mod Fine
+pub mod Cut
+pub mod Later
+pub mod Refused
+pub mod Retire
+mod Banked
+pub mod Stale
+pub mod Own
+pub mod Opens
+pub mod Heard
+pub mod Signs

@@ -4,3 +4,11 @@ pub mod Determined
 pub mod Tail
 pub mod Kept
 pub mod Exchanged
+pub mod Refused
+pub mod Retire
+pub mod Stale
+pub mod Own
+pub mod Later
+pub mod Cut
+pub mod Opens
+pub mod Signs

@@ -1,0 +1,35 @@
+-- A call that is not refused weighs Fine; one that is leaves what its refusal leaves. Assumes nothing.
+use mathlib.Core.Path.{_≡_, refl}
+use mathlib.Core.List.{List}
+use Prim.Native.Nat.{ℕ, _≤_}
+use native.Mathlib.Omega.{arith}
+use lib.Ieee.{Float}
+use Rattle.session.specs.declared.Refusal.{Refusal}
+use Rattle.session.specs.declared.Weighed.{Weighed}
+use Rattle.session.specs.declared.Answered.{Answered}
+use Rattle.session.specs.Refusal.{numberOf, unless}
+use Rattle.session.specs.Answer.{says}
+use Rattle.session.proofs.Refuse.{number-some, refused-or-done}
+use Rattle.block.specs.Block.{blockOf}
+use Rattle.block.proofs.Weigh.{Accepted, accepted, block-done}
+use Rattle.promises.specs.Calls.{State, block, code, refusal}
+
+-- a call that says 0 weighs Fine
+pub zero-fine : {A : Type 0} (w : Weighed) (refusal : Refusal → A) (done : A) (told : A → ℕ) → ((k : Refusal) → told (refusal k) ≡ numberOf k)
+    → told (unless w refusal done) ≡ 0 → w ≡ Weighed.Fine
+zero-fine w refusal done told e =
+    refused-or-done w refusal done (λ z. told z ≡ 0 → w ≡ Weighed.Fine) (λ k r z. absurd (none (told (refusal k)) k (e k) z)) (λ fine z. fine)
+  where
+    none : (n : ℕ) (k : Refusal) → n ≡ numberOf k → n ≡ 0 → ⊥
+    none n k e z = let l : 1 ≤ numberOf k = number-some k in omega arith
+
+module _ (x : State) (out : List Float) where
+  -- a block that says 0 is accepted,
+  pub block-accepts : refusal (block out) x ≡ 0 → Accepted (x .session) (x .queue) (x .capture) (x .pool) out
+  unfolding blockOf
+  block-accepts e =
+      accepted (x .session) (x .queue) (x .capture) (x .pool) out (zero-fine {A = Answered × List Float} _ _ _ (λ z. code (says (z .0 .answer))) (λ k. refl) e)
+
+  -- and one that is accepted says 0
+  pub block-says : Accepted (x .session) (x .queue) (x .capture) (x .pool) out → refusal (block out) x ≡ 0
+  block-says a = rw (block-done (x .session) (x .queue) (x .capture) (x .pool) out a)
