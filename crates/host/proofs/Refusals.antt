@@ -14,7 +14,7 @@ use Rattle.session.specs.declared.Weighed.{Weighed}
 use Rattle.session.specs.Refusal.{numberOf, unless}
 use Rattle.session.specs.Session.{turnedAway}
 use Rattle.session.specs.WellFormed.{wellFormed}
-use Rattle.session.proofs.Refuse.{refused-or-done}
+use Rattle.session.proofs.Refuse.{unless-both}
 use Rattle.clips.specs.Load.{loadOf}
 use Rattle.clips.specs.Retire.{retireOf}
 use Rattle.submission.specs.Submit.{taken, submitOf}
@@ -90,16 +90,26 @@ module _ (h : HostSession) (q c : List ℕ) where
 
 -- ---- what is refused, by whichever number
 
--- one law for every call: where what a host reads is not 0, it reads that number, and has what is given for it
+-- what holds of every refusal, the host's own and the call's, and of what the call does, holds of what a host reads,
+pub each-way : {A B : Type 0} (P : B → Type 0) (give : ℕ → B) (host : A → B) (n : ℕ) (w : Weighed) (refusal : Refusal → A) (done : A)
+    → ((m : ℕ) → P (give m)) → ((k : Refusal) → P (host (refusal k))) → P (host done) → P (unlessHost n give (host (unless w refusal done)))
+unfolding unlessHost
+each-way P give host zero w refusal done own refuses does = unless-both w refusal done (λ a. P (host a)) refuses (λ fine. does)
+each-way P give host (suc n) w refusal done own refuses does = own (suc n)
+
+-- so where a host reads another number than 0, it has what is given for that number,
 pub stays : {A B : Type 0} (number : B → ℕ) (give : ℕ → B) (host : A → B) (n : ℕ) (w : Weighed) (refusal : Refusal → A) (done : A)
     → ((m : ℕ) → number (give m) ≡ m) → ((k : Refusal) → host (refusal k) ≡ give (numberOf k)) → number (host done) ≡ 0
     → let z : B = unlessHost n give (host (unless w refusal done)) in (number z ≡ 0 → ⊥) → z ≡ give (number z)
-unfolding unlessHost
-stays number give host zero w refusal done told refuses does = refused-or-done w refusal done (λ a. (number (host a) ≡ 0 → ⊥) → host a ≡ give (number (host a))) (λ k e other. refuses k ∙ ap give (sym (ap number (refuses k) ∙ told (numberOf k)))) (λ fine other. absurd (other does))
-stays number give host (suc n) w refusal done told refuses does = λ other. ap give (sym (told (suc n)))
+stays {B} number give host n w refusal done told refuses does =
+    each-way (λ z. (number z ≡ 0 → ⊥) → z ≡ give (number z)) give host n w refusal done
+    (λ m other. ap give (sym (told m)))
+    (λ k other. refuses k ∙ ap give (sym (ap number (refuses k) ∙ told (numberOf k))))
+    (λ other. absurd (other does))
 
--- and so, with the very session that came but for 15's count, no value, and every store as it was, a load,
+-- which is the very session that came but for 15's count, no value, and every store as it was:
 module _ (h : HostSession) (q c : List ℕ) where
+  -- a load,
   pub load-stays : (pool samples : List Float) (kind : ℕ) (extent : SongFrame) (rate : ℕ)
       → let z : HostLoaded × List Float = loadHost h q c pool samples kind extent rate in (z .0 .refusal ≡ 0 → ⊥) → z ≡ (loadRefused h (z .0 .refusal), pool)
   unfolding loadHost loadOf

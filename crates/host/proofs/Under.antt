@@ -121,47 +121,49 @@ toldMetrics r = (saysMetrics (r .answer), r .session)
 pub number-says : {A : Type 0} (k : Refusal) (v : A) → saysBy (numberOf k) v ≡ refused (numberOf k)
 number-says k v = let some : 1 ≤ numberOf k = number-some k in rw (ne-eqb (numberOf k) 0 (λ (e : numberOf k ≡ 0). omega arith))
 
--- a refusal other than 15 leaves the session
-abbrev counts : Weighed → Bool
-counts Weighed.Fine = false
-counts (Weighed.Refused k) = eqb (numberOf k) 15
+-- it is the queue that is full, which counts
+abbrev pub full : Weighed → Bool
+full Weighed.Fine = false
+full (Weighed.Refused k) = eqb (numberOf k) 15
 
-other : (t : Bool) (k : Refusal) (rest : Weighed) → eqb (numberOf k) 15 ≡ false → counts rest ≡ false → counts (first t k rest) ≡ false
+-- a chain of other refusals never says so
+other : (t : Bool) (k : Refusal) (rest : Weighed) → eqb (numberOf k) 15 ≡ false → full rest ≡ false → full (first t k rest) ≡ false
 unfolding first
 other true k rest e r = e
 other false k rest e r = r
 
-leaves : (h : HostSession) (w : Weighed) (k : Refusal) → counts w ≡ false → w ≡ Weighed.Refused k → sessionOf (turned (numberOf k) h) ≡ sessionOf h
-leaves h w k e r = ap sessionOf (turned-same (numberOf k) h (eqb-false (numberOf k) 15 (ap counts (sym r) ∙ e)))
+-- and what is refused otherwise leaves the session
+leaves : (h : HostSession) (w : Weighed) (k : Refusal) → full w ≡ false → w ≡ Weighed.Refused k → sessionOf (turned (numberOf k) h) ≡ sessionOf h
+leaves h w k e r = ap sessionOf (turned-same (numberOf k) h (eqb-false (numberOf k) 15 (ap full (sym r) ∙ e)))
 
 -- 7, 1, 2, 3, 5, 6, 13, 10: opening never gives 15,
-open-other : (x : Settings) (q c : List ℕ) (pool samples : List Float) (rate : ℕ) (extent : SongFrame) → counts (weighOpen x q c pool samples rate extent) ≡ false
+open-other : (x : Settings) (q c : List ℕ) (pool samples : List Float) (rate : ℕ) (extent : SongFrame) → full (weighOpen x q c pool samples rate extent) ≡ false
 unfolding weighOpen
 open-other x q c pool samples rate extent = other _ _ _ refl (other _ _ _ refl (other _ _ _ refl (other _ _ _ refl (other _ _ _ refl (other _ _ _ refl (other _ _ _ refl (other _ _ _ refl refl)))))))
 
 -- nor does any call but submit and transition
 module _ (s : Session) (q c : List ℕ) where
-  only-other : counts (weighOnly s q c) ≡ false
+  pub only-other : full (weighOnly s q c) ≡ false
   unfolding weighOnly
   only-other = other _ _ _ refl refl
 
-  load-other : (pool samples : List Float) (kind : Kind) (rate : ℕ) → counts (weighLoad s q c pool samples kind rate) ≡ false
+  pub load-other : (pool samples : List Float) (kind : Kind) (rate : ℕ) → full (weighLoad s q c pool samples kind rate) ≡ false
   unfolding weighLoad
   load-other pool samples kind rate = other _ _ _ refl (other _ _ _ refl (other _ _ _ refl (other _ _ _ refl (other _ _ _ refl (other _ _ _ refl (other _ _ _ refl (other _ _ _ refl (other _ _ _ refl refl))))))))
 
-  retire-other : (x : Handle) → counts (weighRetire s q c x) ≡ false
+  pub retire-other : (x : Handle) → full (weighRetire s q c x) ≡ false
   unfolding weighRetire
   retire-other x = other _ _ _ refl (other _ _ _ refl (other _ _ _ refl refl))
 
-  block-other : (pool out : List Float) → counts (weighBlock s q c pool out) ≡ false
+  pub block-other : (pool out : List Float) → full (weighBlock s q c pool out) ≡ false
   unfolding weighBlock
   block-other pool out = other _ _ _ refl (other _ _ _ refl (other _ _ _ refl (other _ _ _ refl refl)))
 
-  stop-other : (list : List ℕ) → counts (weighStop s q c list) ≡ false
+  pub stop-other : (list : List ℕ) → full (weighStop s q c list) ≡ false
   unfolding weighStop
   stop-other list = other _ _ _ refl (other _ _ _ refl refl)
 
-  apply-other : (x : PerformanceSnapshot) → counts (control.weighApply s q c x) ≡ false
+  pub apply-other : (x : PerformanceSnapshot) → full (control.weighApply s q c x) ≡ false
   unfolding control.weighApply
   apply-other x = other _ _ _ refl (other _ _ _ refl refl)
 

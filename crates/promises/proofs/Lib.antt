@@ -16,3 +16,4 @@ pub mod Own
 pub mod Opens
 pub mod Heard
 pub mod Signs
+pub mod Hosts

@@ -38,46 +38,9 @@ use Rattle.control.specs.Answer.{saysStop, saysSnapshot, saysMetrics}
 use Rattle.control.specs.Capture.{weighStop, startCaptureOf, stopCaptureOf}
 use Rattle.control.specs.Snapshot.{snapshotOf, weighApply, applyOf}
 use Rattle.control.specs.Metrics.{metricsOf}
+use Rattle.host.proofs.Under.{full, load-other, retire-other, block-other, only-other, stop-other, apply-other}
 use Rattle.promises.specs.Calls.{State, Call, load, retire, submit, transition, block, startCapture, stopCapture, replay, snapshot, apply, metrics, withSession, state, code, refusal, after, outOf, Opening, opened}
 use Rattle.promises.specs.Refused.{countedBy, listOf, Refused}
-
--- ---- only submissions weigh 15
-
--- it is the queue that is full
-abbrev full : Weighed → Bool
-full Weighed.Fine = false
-full (Weighed.Refused k) = eqb (numberOf k) 15
-
--- a chain of other refusals never says so
-other : (t : Bool) (k : Refusal) (rest : Weighed) → eqb (numberOf k) 15 ≡ false → full rest ≡ false → full (first t k rest) ≡ false
-unfolding first
-other true k rest e r = e
-other false k rest e r = r
-
-module _ (s : Session) (q c : List ℕ) where
-  load-other : (pool samples : List Float) (kind : Kind) (rate : ℕ) → full (weighLoad s q c pool samples kind rate) ≡ false
-  unfolding weighLoad
-  load-other pool samples kind rate = other _ _ _ refl (other _ _ _ refl (other _ _ _ refl (other _ _ _ refl (other _ _ _ refl (other _ _ _ refl (other _ _ _ refl (other _ _ _ refl (other _ _ _ refl refl))))))))
-
-  retire-other : (h : Handle) → full (weighRetire s q c h) ≡ false
-  unfolding weighRetire
-  retire-other h = other _ _ _ refl (other _ _ _ refl (other _ _ _ refl refl))
-
-  block-other : (pool out : List Float) → full (weighBlock s q c pool out) ≡ false
-  unfolding weighBlock
-  block-other pool out = other _ _ _ refl (other _ _ _ refl (other _ _ _ refl (other _ _ _ refl refl)))
-
-  only-other : full (weighOnly s q c) ≡ false
-  unfolding weighOnly
-  only-other = other _ _ _ refl refl
-
-  stop-other : (list : List ℕ) → full (weighStop s q c list) ≡ false
-  unfolding weighStop
-  stop-other list = other _ _ _ refl (other _ _ _ refl refl)
-
-  apply-other : (y : PerformanceSnapshot) → full (weighApply s q c y) ≡ false
-  unfolding weighApply
-  apply-other y = other _ _ _ refl (other _ _ _ refl refl)
 
 -- ---- what is left
 
@@ -94,7 +57,7 @@ module _ {A : Type 0} (w : Weighed) (refusal : Refusal → A) (done : A) (told :
       refused-or-done w refusal done (λ a. told a ≢ 0 → left a ≡ withSession x (countedBy (told a) (x .session)))
       (λ k r n. g k ∙ ap (λ (m : ℕ). withSession x (countedBy m (x .session))) (sym (says k))) (λ f n. absurd (n fine))
 
-  -- and where none is 15 and each leaves everything, so does the call
+  -- and where the queue is not full and each leaves everything, so does the call
   leaves : full w ≡ false → ((k : Refusal) → left (refusal k) ≡ x)
       → told (unless w refusal done) ≢ 0 → left (unless w refusal done) ≡ withSession x (countedBy (told (unless w refusal done)) (x .session))
   leaves e g =

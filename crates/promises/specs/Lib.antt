@@ -12,3 +12,4 @@ pub mod Later
 pub mod Cut
 pub mod Opens
 pub mod Signs
+pub mod Hosts
