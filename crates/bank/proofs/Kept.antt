@@ -1,21 +1,24 @@
 -- A bank stays well formed when a clip is loaded and when one is retired. Assumes nothing.
-use mathlib.Core.Path.{_≡_, refl, sym, _∙_}
-use mathlib.Core.Bool.{true, false}
+use mathlib.Core.Path.{_≡_, refl, sym, ap, _∙_}
+use mathlib.Core.Bool.{Bool, true, false, not, _||_, cond}
 use mathlib.Core.Logic.{_⊎_, inl, inr}
 use Prim.Native.Nat.{ℕ, _+_, _-_, _≤_, _<_, _^_}
 use native.Mathlib.Omega.{arith}
 use native.Mathlib.Decide.{ℕ-discrete}
+use lib.Dec.{leb, eqb}
 use lib.ListN.{length, length-set}
+use borrow.Author.Tests.{le-leb, leb-true}
 use lib.Seq.{getD-set-same, getD-set-other}
-use Rattle.counts.proofs.Truth.{never}
+use Rattle.counts.proofs.Truth.{lt-or-le, never, and-true, and-l, or-l, or-r, or-cases}
+use Rattle.counts.proofs.Below.{all-true}
 use Rattle.counts.specs.declared.Handle.{Handle}
 use Rattle.bank.specs.declared.Clip.{Clip}
 use Rattle.bank.specs.declared.Bank.{Bank}
-use Rattle.bank.specs.Slots.{usedAt, freeSlot, blank, emptyBank, clipIn, live, loadedIn, retiredFrom}
-use Rattle.bank.specs.Room.{fits, nowhere, firstFit}
+use Rattle.bank.specs.Slots.{usedAt, freeSlot, blank, emptyBank, clipIn, clipOf, live, loadedIn, retiredFrom}
+use Rattle.bank.specs.Room.{apart, fits, nowhere, firstFit}
 use Rattle.bank.specs.WellFormed.{rateOk, extentOk, pairOk, bankOk}
-use Rattle.bank.proofs.Slots.{none-used, marked-here, marked-there, marked-below, unmarked-here, unmarked-there, free-slot, free-slot-free}
-use Rattle.bank.proofs.Fit.{fit-lies, fit-apart, first-fits}
+use Rattle.bank.proofs.Slots.{none-used, marked-here, marked-there, marked-below, unmarked-here, unmarked-there, free-slot, free-slot-free, free-slot-lowest, free-slot-full}
+use Rattle.bank.proofs.Fit.{fit-lies, fit-apart, first-fits, first-lowest}
 use Rattle.bank.proofs.Clauses.{Clauses, bank-clip, bank-pair, bank-is, pair-is, pair-sym, live-has}
 
 -- the bank at opening is well formed
@@ -141,6 +144,15 @@ module _ {b : Bank} {room slot : ℕ} {c : Clip} (p : Placed b room slot c) wher
 
 -- ---- retire
 
+-- what has none of some frames has none of fewer
+narrow : (c : Clip) (s m n : ℕ) → n ≤ m → apart c s m ≡ true → apart c s n ≡ true
+unfolding apart
+narrow c s m n l e = go (or-cases (leb (c .start + c .frames) s) (leb (s + m) (c .start)) e)
+  where
+    go : (leb (c .start + c .frames) s ≡ true) ⊎ (leb (s + m) (c .start) ≡ true) → leb (c .start + c .frames) s || leb (s + n) (c .start) ≡ true
+    go (inl p) = or-l (leb (s + n) (c .start)) p
+    go (inr p) = let q : s + m ≤ c .start = leb-true (s + m) (c .start) p in or-r (leb (c .start + c .frames) s) (le-leb (s + n) (c .start) (omega arith))
+
 -- there are as many places as before
 pub retire-length : (b : Bank) (h : Handle) → length (retiredFrom b h .clips) ≡ length (b .clips)
 unfolding retiredFrom
@@ -175,3 +187,40 @@ module _ (b : Bank) (h : Handle) (e : live b h ≡ true) where
   retire-keeps room ok =
       bank-is (retiredFrom b h) room (λ i l u. bank-clip b room ok i l (before i u))
       (λ i j l q u v. bank-pair b room ok i j l (omega arith) (λ x. omega arith) (before i u) (before j v))
+
+  -- so not all slots are used
+  pub retired-slot : b .used < 2 ^ 32 → retiredFrom b h .used ≡ 2 ^ 32 - 1 → ⊥
+  retired-slot l q =
+      let full : freeSlot (retiredFrom b h .used) ≡ 32 = ap freeSlot q ∙ free-slot-full in
+      never (sym (free-slot-lowest (retiredFrom b h .used) (retire-bits b h l) (h .slot) (omega (arith, full, live-has b h e .among))) ∙ retired-here)
+
+  -- ---- retired room is used again
+
+  module _ (room : ℕ) (ok : bankOk b room ≡ true) where
+    -- a clip that stays has no frame of the one that went
+    stays-apart : (i : ℕ) → i < 32 → usedAt (retiredFrom b h .used) i ≡ true → apart (clipIn b i) (clipOf b h .start) (clipOf b h .frames) ≡ true
+    unfolding pairOk
+    stays-apart i l u =
+        let a = live-has b h e in
+        and-l (apart (clipIn b i) (clipOf b h .start) (clipOf b h .frames)) (not (eqb (clipIn b i .serial) (clipOf b h .serial)))
+        (bank-pair b room ok i (h .slot) l (a .among) (λ (q : i ≡ h .slot). never (sym (rw q at u) ∙ retired-here)) (before i u) (a .used))
+
+    -- so what has at most its frames fits where it lay,
+    pub room-fits : (n : ℕ) → n ≤ clipOf b h .frames → fits (retiredFrom b h) room n (clipOf b h .start) ≡ true
+    unfolding fits retiredFrom
+    room-fits n m =
+        let a = live-has b h e in
+        let c = bank-clip b room ok (h .slot) (a .among) (a .used) in
+        and-true (le-leb (clipOf b h .start + n) room (omega (arith, c .lies))) (all-true _ 32 (λ i l. go i l (usedAt (retiredFrom b h .used) i) refl))
+      where
+        go : (i : ℕ) → i < 32 → (u : Bool) → usedAt (retiredFrom b h .used) i ≡ u → cond u (apart (clipIn b i) (clipOf b h .start) n) true ≡ true
+        go i l true used = narrow (clipIn b i) (clipOf b h .start) (clipOf b h .frames) n m (stays-apart i l used)
+        go i l false free = refl
+
+    -- and the first fit comes no later
+    pub room-again : (n : ℕ) → 1 ≤ n → n ≤ clipOf b h .frames → firstFit (retiredFrom b h) room n ≤ clipOf b h .start
+    room-again n some m = go (lt-or-le (clipOf b h .start) (firstFit (retiredFrom b h) room n))
+      where
+        go : (clipOf b h .start < firstFit (retiredFrom b h) room n) ⊎ (firstFit (retiredFrom b h) room n ≤ clipOf b h .start) → firstFit (retiredFrom b h) room n ≤ clipOf b h .start
+        go (inl l) = absurd (never (sym (room-fits n m) ∙ first-lowest (retiredFrom b h) room n some (clipOf b h .start) l))
+        go (inr l) = l

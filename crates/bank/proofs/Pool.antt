@@ -26,7 +26,7 @@ use Rattle.bank.proofs.Handles.{live-clip, load-keeps-clip}
 
 module _ {ℓ} {A : Type ℓ} where
   -- a part of a list stands at the end of the list's front
-  part-of-front : (l : List A) (from n : ℕ) → from ≤ length l → take n (drop from l) ≡ drop from (take (from + n) l)
+  pub part-of-front : (l : List A) (from n : ℕ) → from ≤ length l → take n (drop from l) ≡ drop from (take (from + n) l)
   part-of-front l from n h = sym (rw (take-add from n l) (drop-at (take from l) (take n (drop from l)) from (length-take-le from l h)))
 
   module _ (pool : List A) (at : ℕ) (samples : List A) (h : at + length samples ≤ length pool) where

@@ -15,10 +15,10 @@ use Rattle.session.specs.declared.Session.{Session}
 use Rattle.session.specs.declared.Refusal.{Refusal}
 use Rattle.session.specs.declared.Weighed.{Weighed}
 use Rattle.session.specs.declared.Answered.{Answered}
-use Rattle.session.specs.Refusal.{numberOf, first, unless}
+use Rattle.session.specs.Refusal.{numberOf, unless}
 use Rattle.session.specs.WellFormed.{weighOnly}
 use Rattle.session.specs.Answer.{Says, refused, gives, says}
-use Rattle.session.proofs.Refuse.{number-some, refused-or-done}
+use Rattle.session.proofs.Refuse.{number-some, numbered, other, refused-or-done}
 use Rattle.block.specs.Block.{weighBlock, blockOf}
 use Rattle.clips.specs.declared.LoadAnswer.{LoadAnswer}
 use Rattle.clips.specs.declared.LoadAnswered.{LoadAnswered}
@@ -121,51 +121,48 @@ toldMetrics r = (saysMetrics (r .answer), r .session)
 pub number-says : {A : Type 0} (k : Refusal) (v : A) → saysBy (numberOf k) v ≡ refused (numberOf k)
 number-says k v = let some : 1 ≤ numberOf k = number-some k in rw (ne-eqb (numberOf k) 0 (λ (e : numberOf k ≡ 0). omega arith))
 
--- it is the queue that is full, which counts
+-- 15 alone counts
+abbrev counted : ℕ → Bool
+counted n = eqb n 15
+
+-- it is the queue that is full
 abbrev pub full : Weighed → Bool
-full Weighed.Fine = false
-full (Weighed.Refused k) = eqb (numberOf k) 15
+full = numbered counted
 
--- a chain of other refusals never says so
-other : (t : Bool) (k : Refusal) (rest : Weighed) → eqb (numberOf k) 15 ≡ false → full rest ≡ false → full (first t k rest) ≡ false
-unfolding first
-other true k rest e r = e
-other false k rest e r = r
-
--- and what is refused otherwise leaves the session
+-- what is refused otherwise leaves the session
 leaves : (h : HostSession) (w : Weighed) (k : Refusal) → full w ≡ false → w ≡ Weighed.Refused k → sessionOf (turned (numberOf k) h) ≡ sessionOf h
 leaves h w k e r = ap sessionOf (turned-same (numberOf k) h (eqb-false (numberOf k) 15 (ap full (sym r) ∙ e)))
 
 -- 7, 1, 2, 3, 5, 6, 13, 10: opening never gives 15,
 open-other : (x : Settings) (q c : List ℕ) (pool samples : List Float) (rate : ℕ) (extent : SongFrame) → full (weighOpen x q c pool samples rate extent) ≡ false
 unfolding weighOpen
-open-other x q c pool samples rate extent = other _ _ _ refl (other _ _ _ refl (other _ _ _ refl (other _ _ _ refl (other _ _ _ refl (other _ _ _ refl (other _ _ _ refl (other _ _ _ refl refl)))))))
+open-other x q c pool samples rate extent = other counted _ _ _ refl (other counted _ _ _ refl (other counted _ _ _ refl (other counted _ _ _ refl (other counted _ _ _ refl (other counted _ _ _ refl (other counted _ _ _ refl (other counted _ _ _ refl refl)))))))
 
 -- nor does any call but submit and transition
 module _ (s : Session) (q c : List ℕ) where
   pub only-other : full (weighOnly s q c) ≡ false
   unfolding weighOnly
-  only-other = other _ _ _ refl refl
+  only-other = other counted _ _ _ refl refl
 
   pub load-other : (pool samples : List Float) (kind : Kind) (rate : ℕ) → full (weighLoad s q c pool samples kind rate) ≡ false
   unfolding weighLoad
-  load-other pool samples kind rate = other _ _ _ refl (other _ _ _ refl (other _ _ _ refl (other _ _ _ refl (other _ _ _ refl (other _ _ _ refl (other _ _ _ refl (other _ _ _ refl (other _ _ _ refl refl))))))))
+  load-other pool samples kind rate = other counted _ _ _ refl (other counted _ _ _ refl (other counted _ _ _ refl (other counted _ _ _ refl (other counted _ _ _ refl (other counted _ _ _ refl (other counted _ _ _ refl (other counted _ _ _ refl (other counted _ _ _ refl refl))))))))
 
   pub retire-other : (x : Handle) → full (weighRetire s q c x) ≡ false
   unfolding weighRetire
-  retire-other x = other _ _ _ refl (other _ _ _ refl (other _ _ _ refl refl))
+  retire-other x = other counted _ _ _ refl (other counted _ _ _ refl (other counted _ _ _ refl refl))
 
   pub block-other : (pool out : List Float) → full (weighBlock s q c pool out) ≡ false
   unfolding weighBlock
-  block-other pool out = other _ _ _ refl (other _ _ _ refl (other _ _ _ refl (other _ _ _ refl refl)))
+  block-other pool out = other counted _ _ _ refl (other counted _ _ _ refl (other counted _ _ _ refl (other counted _ _ _ refl refl)))
 
   pub stop-other : (list : List ℕ) → full (weighStop s q c list) ≡ false
   unfolding weighStop
-  stop-other list = other _ _ _ refl (other _ _ _ refl refl)
+  stop-other list = other counted _ _ _ refl (other counted _ _ _ refl refl)
 
   pub apply-other : (x : PerformanceSnapshot) → full (control.weighApply s q c x) ≡ false
   unfolding control.weighApply
-  apply-other x = other _ _ _ refl (other _ _ _ refl refl)
+  apply-other x = other counted _ _ _ refl (other counted _ _ _ refl refl)
 
 -- ---- one law for every call: where a refusal reads as it is told, and so does what is done, the call does
 

@@ -13,6 +13,7 @@ pub mod Retire
 mod Banked
 pub mod Stale
 pub mod Own
+pub mod Room
 pub mod Opens
 pub mod Heard
 pub mod Signs

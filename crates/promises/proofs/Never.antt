@@ -19,10 +19,10 @@ use Rattle.session.specs.declared.Session.{Session}
 use Rattle.session.specs.declared.Refusal.{Refusal}
 use Rattle.session.specs.declared.Weighed.{Weighed}
 use Rattle.session.specs.declared.Answered.{Answered}
-use Rattle.session.specs.Refusal.{numberOf, first, unless}
+use Rattle.session.specs.Refusal.{numberOf, unless}
 use Rattle.session.specs.WellFormed.{wellFormed, weighOnly}
 use Rattle.session.specs.Answer.{says}
-use Rattle.session.proofs.Refuse.{refused-or-done}
+use Rattle.session.proofs.Refuse.{numbered, other, passes, refused-or-done}
 use Rattle.block.specs.Block.{weighBlock, blockOf}
 use Rattle.clips.specs.declared.LoadAnswered.{LoadAnswered}
 use Rattle.clips.specs.Answer.{saysLoad}
@@ -50,59 +50,51 @@ use Rattle.promises.proofs.Kept.{reached-good}
 
 -- ---- a chain of refusals that gives neither 1 nor 2
 
+-- 1 or 2
+abbrev low : ℕ → Bool
+low n = leb n 2
+
 -- it gives one of them
 abbrev ill : Weighed → Bool
-ill Weighed.Fine = false
-ill (Weighed.Refused k) = leb (numberOf k) 2
-
--- a test that does not hold gives nothing,
-passes : (t : Bool) (k : Refusal) (rest : Weighed) → t ≡ false → ill rest ≡ false → ill (first t k rest) ≡ false
-unfolding first
-passes t k rest e r = rw e r
-
--- and a later one some other number
-other : (t : Bool) (k : Refusal) (rest : Weighed) → leb (numberOf k) 2 ≡ false → ill rest ≡ false → ill (first t k rest) ≡ false
-unfolding first
-other true k rest e r = e
-other false k rest e r = r
+ill = numbered low
 
 command-other : (w : Scales) (h : Stands) (x : Command) → ill (weighCommand w h x) ≡ false
 unfolding weighCommand
-command-other w h x = other _ _ _ refl (other _ _ _ refl (other _ _ _ refl (other _ _ _ refl (other _ _ _ refl (other _ _ _ refl (other _ _ _ refl (other _ _ _ refl (refl))))))))
+command-other w h x = other low _ _ _ refl (other low _ _ _ refl (other low _ _ _ refl (other low _ _ _ refl (other low _ _ _ refl (other low _ _ _ refl (other low _ _ _ refl (other low _ _ _ refl (refl))))))))
 
 module _ (s : Session) (q c : List ℕ) (formed : wellFormed s q c ≡ true) where
   only-other : ill (weighOnly s q c) ≡ false
   unfolding weighOnly
-  only-other = passes _ _ _ (ap not formed) (refl)
+  only-other = passes low _ _ _ (ap not formed) (refl)
 
   retire-other : (h : Handle) → ill (weighRetire s q c h) ≡ false
   unfolding weighRetire
-  retire-other h = passes _ _ _ (ap not formed) (other _ _ _ refl (other _ _ _ refl (refl)))
+  retire-other h = passes low _ _ _ (ap not formed) (other low _ _ _ refl (other low _ _ _ refl (refl)))
 
   submit-other : (y : Submission) → ill (weighSubmit s q c y) ≡ false
   unfolding weighSubmit
-  submit-other y = passes _ _ _ (ap not formed) ((command-other _ _ _))
+  submit-other y = passes low _ _ _ (ap not formed) ((command-other _ _ _))
 
   transition-other : (f : SongFrame) → ill (weighTransition s q c f) ≡ false
   unfolding weighTransition
-  transition-other f = passes _ _ _ (ap not formed) ((command-other _ _ _))
+  transition-other f = passes low _ _ _ (ap not formed) ((command-other _ _ _))
 
   stop-other : (list : List ℕ) → ill (weighStop s q c list) ≡ false
   unfolding weighStop
-  stop-other list = passes _ _ _ (ap not formed) (other _ _ _ refl (refl))
+  stop-other list = passes low _ _ _ (ap not formed) (other low _ _ _ refl (refl))
 
   apply-other : (y : PerformanceSnapshot) → ill (weighApply s q c y) ≡ false
   unfolding weighApply
-  apply-other y = passes _ _ _ (ap not formed) (other _ _ _ refl (refl))
+  apply-other y = passes low _ _ _ (ap not formed) (other low _ _ _ refl (refl))
 
   module _ (pool : List Float) (lent : isPool pool (s .settings .pool) ≡ true) where
     load-other : (samples : List Float) (kind : Kind) (rate : ℕ) → ill (weighLoad s q c pool samples kind rate) ≡ false
     unfolding weighLoad
-    load-other samples kind rate = passes _ _ _ (ap not formed) (passes _ _ _ (ap not lent) (other _ _ _ refl (other _ _ _ refl (other _ _ _ refl (other _ _ _ refl (other _ _ _ refl (other _ _ _ refl (other _ _ _ refl (refl)))))))))
+    load-other samples kind rate = passes low _ _ _ (ap not formed) (passes low _ _ _ (ap not lent) (other low _ _ _ refl (other low _ _ _ refl (other low _ _ _ refl (other low _ _ _ refl (other low _ _ _ refl (other low _ _ _ refl (other low _ _ _ refl (refl)))))))))
 
     block-other : (out : List Float) → ill (weighBlock s q c pool out) ≡ false
     unfolding weighBlock
-    block-other out = passes _ _ _ (ap not formed) (passes _ _ _ (ap not lent) (other _ _ _ refl (other _ _ _ refl (refl))))
+    block-other out = passes low _ _ _ (ap not formed) (passes low _ _ _ (ap not lent) (other low _ _ _ refl (other low _ _ _ refl (refl))))
 
 -- ---- so no call gives one of them
 

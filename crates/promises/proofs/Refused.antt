@@ -15,7 +15,7 @@ use Rattle.session.specs.declared.Weighed.{Weighed}
 use Rattle.session.specs.declared.Answered.{Answered}
 use Rattle.session.specs.Refusal.{numberOf, first, unless}
 use Rattle.session.specs.Answer.{says}
-use Rattle.session.specs.WellFormed.{settingsOk, numbersOk, wellFormed, weighOnly}
+use Rattle.session.specs.WellFormed.{wellFormed, weighOnly}
 use Rattle.session.proofs.Refuse.{stop, unless-refused, refused-or-done, unless-both}
 use Rattle.block.specs.Block.{weighBlock, blockOf}
 use Rattle.clips.specs.declared.LoadAnswered.{LoadAnswered}
@@ -23,6 +23,7 @@ use Rattle.clips.specs.Answer.{saysLoad}
 use Rattle.clips.specs.Open.{noSession, openOf}
 use Rattle.clips.specs.Load.{weighLoad, loadOf}
 use Rattle.clips.specs.Retire.{weighRetire, retireOf}
+use Rattle.clips.proofs.Opened.{none-formed}
 use Rattle.submission.specs.declared.SubmitAnswered.{SubmitAnswered}
 use Rattle.submission.specs.declared.ReplayAnswered.{ReplayAnswered}
 use Rattle.submission.specs.Answer.{saysSubmit, saysReplay}
@@ -124,10 +125,6 @@ ill-formed snapshot x e = ones {A = SnapshotAnswered} _ _ _ _ (λ z. code (saysS
 ill-formed (apply y) x e = ones {A = Answered} _ _ _ _ (λ z. code (says (z .answer))) e (λ k. refl)
 ill-formed metrics x e = ones {A = MetricsAnswered} _ _ _ _ (λ z. code (saysMetrics (z .answer))) e (λ k. refl)
 
-no-session : (q c : List ℕ) → wellFormed noSession q c ≡ false
-unfolding wellFormed numbersOk settingsOk
-no-session q c = refl
-
 -- ---- all of it
 
 output-refused : (x : State) (out : List Float) → refusal (block out) x ≢ 0 → outOf x out ≡ out
@@ -153,6 +150,6 @@ refused =
         refl,
         ap (λ (z : Session × List Float). z .1) (open-left o n),
         λ k.
-            ill-formed k (opened o .1) (ap (λ (z : Session × List Float). wellFormed (z .0) (o .queue) (o .capture)) (open-left o n) ∙ no-session (o .queue) (o .capture)),
+            ill-formed k (opened o .1) (ap (λ (z : Session × List Float). wellFormed (z .0) (o .queue) (o .capture)) (open-left o n) ∙ none-formed (o .queue) (o .capture)),
       );
     }

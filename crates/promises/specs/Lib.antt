@@ -8,6 +8,7 @@ pub mod Refused
 pub mod Retire
 pub mod Stale
 pub mod Own
+pub mod Room
 pub mod Later
 pub mod Cut
 pub mod Opens

@@ -51,6 +51,26 @@ unfolding first
 passed true k rest e = let x : _≡_ {A = ℕ} 0 1 = cc in absurd (omega arith)
 passed false k rest e = (refl, e)
 
+-- ---- whether a chain gives one of some numbers
+
+-- it is refused by a number that passes the test p
+abbrev pub numbered : (ℕ → Bool) → Weighed → Bool
+numbered p Weighed.Fine = false
+numbered p (Weighed.Refused k) = p (numberOf k)
+
+-- a link of another number never gives one,
+pub other : (p : ℕ → Bool) (t : Bool) (k : Refusal) (rest : Weighed) → p (numberOf k) ≡ false → numbered p rest ≡ false → numbered p (first t k rest) ≡ false
+unfolding first
+other p true k rest e r = e
+other p false k rest e r = r
+
+-- nor one whose test does not hold
+pub passes : (p : ℕ → Bool) (t : Bool) (k : Refusal) (rest : Weighed) → t ≡ false → numbered p rest ≡ false → numbered p (first t k rest) ≡ false
+unfolding first
+passes p t k rest e r = rw e r
+
+-- ---- what a call gives
+
 module _ {A : Type 0} (w : Weighed) (refusal : Refusal → A) (done : A) where
   -- a call that is not refused does what it does,
   pub unless-fine : w ≡ Weighed.Fine → unless w refusal done ≡ done
