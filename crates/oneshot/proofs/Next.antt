@@ -83,7 +83,8 @@ module _ (view : View) where
   fewer true v m k h = omega arith
   fewer false v m k h = omega arith
 
-  at-most : (vs : List Voice) (s : Pair) → length (mixOf view vs s .voices) ≤ length vs
+  -- no more of the voices stay
+  pub at-most : (vs : List Voice) (s : Pair) → length (mixOf view vs s .voices) ≤ length vs
   unfolding mixOf
   at-most [] s = omega arith
   at-most (v ∷ vs) s =

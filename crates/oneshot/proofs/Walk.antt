@@ -1,4 +1,4 @@
--- The walk over the table: what holds at the head of the loop, and how each turn keeps it. The voices from i on are as they came, those below `kept` are the ones that stay, and mixing what is left after them gives the whole.
+-- The walk over the voices of a table, or of a lent slice as a table: what holds at the head of the loop, and how each turn keeps it. The voices from i on are as they came, those below `kept` are the ones that stay, and mixing what is left after them gives the whole.
 -- Assumes nothing.
 use mathlib.Core.Path.{_≡_, refl, sym, ap, _∙_, subst}
 use mathlib.Core.Bool.{true, false}
@@ -30,8 +30,9 @@ left-alone vs i count kept w h k = ap (drop i) (take-set-lt count vs kept w k) �
 module _ (view : View) (P : Voice → Type 0) where
   -- `all` is the whole mix
   pub record Going (old : List Voice) (all : Mix) (count : ℕ) (table : List Voice) (sum : Pair) (kept i : ℕ) : Type 0 where
-    pub few : count ≤ 16
-    pub long : length table ≡ 16
+    pub few : count ≤ length table
+    pub long : length table ≤ 16
+    pub places : length table ≡ length old
     pub order : kept ≤ i
     pub upto : i ≤ count
     pub each : (k : ℕ) → i ≤ k → k < count → P (getD table k blankVoice)
@@ -39,8 +40,8 @@ module _ (view : View) (P : Voice → Type 0) where
     pub so : all ≡ prepend (take kept table) (mixOf view (slice i count table) sum)
 
   -- so it is at the start
-  pub start : (t : Voices) → length (t .table) ≡ 16 → t .count ≤ 16 → Each P t → Going (t .table) (mixOf view (sounding t) silence) (t .count) (t .table) silence 0 0
-  start t l f e = record { few = f; long = l; order = omega arith; upto = omega arith; each = λ k low h. e k h; after = refl; so = refl }
+  pub start : (t : Voices) → length (t .table) ≤ 16 → t .count ≤ length (t .table) → Each P t → Going (t .table) (mixOf view (sounding t) silence) (t .count) (t .table) silence 0 0
+  start t l f e = record { few = f; long = l; places = refl; order = omega arith; upto = omega arith; each = λ k low h. e k h; after = refl; so = refl }
 
   module _ {old : List Voice} {all : Mix} {count : ℕ} {table : List Voice} {sum : Pair} {kept i : ℕ} (g : Going old all count table sum kept i) (d : Voice) where
     -- the voice at i, before the others
@@ -57,6 +58,7 @@ module _ (view : View) (P : Voice → Type 0) where
     gone h e = record {
       few = g .few;
       long = g .long;
+      places = g .places;
       order = omega arith;
       upto = omega arith;
       each = λ k low l. g .each k (omega arith) l;
@@ -69,8 +71,9 @@ module _ (view : View) (P : Voice → Type 0) where
         → Going old all count (set table kept (voiceOf (view (getD table i d .handle)) (getD table i d) sum .voice)) (voiceOf (view (getD table i d .handle)) (getD table i d) sum .sum) (kept + 1) (i + 1)
     unfolding mixOf
     stays h e = record {
-      few = g .few;
+      few = simp length-set (g .few);
       long = simp length-set (g .long);
+      places = simp length-set (g .places);
       order = omega arith;
       upto = omega arith;
       each = λ k low l. subst P (sym (getD-set-other table kept k _ blankVoice (λ q. omega arith))) (g .each k (omega arith) l);

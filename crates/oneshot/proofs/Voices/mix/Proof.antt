@@ -2,6 +2,7 @@
 use mathlib.Core.Path.{_≡_, sym, _∙_}
 use mathlib.Core.Logic.{⊎-elim}
 use Prim.Native.Nat.{_-_}
+use native.Mathlib.Omega.{arith}
 use borrow.Author.Needs.{needs}
 use lib.ListN.{length, take, length-map}
 use lib.Ieee.{ofBits}
@@ -28,7 +29,7 @@ loop-holds : tie.Need-loop-holds Inv-loop μ-loop
 unfolding ofBits
 loop-holds c =
     let s = c .before .before in
-    start _ _ (s .args .self) (sixteen s) (s .pre .few) (s .pre .each)
+    start _ _ (s .args .self) (omega (arith, sixteen s)) (omega (arith, sixteen s, s .pre .few)) (s .pre .each)
 
 mul-v : tie.Need-mul-v Inv-loop μ-loop
 mul-v c = search needs
