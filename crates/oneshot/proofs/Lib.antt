@@ -3,3 +3,4 @@ mod Walk
 pub mod Next
 pub mod Fires
 pub mod Agree
+pub mod Lent

@@ -3,3 +3,4 @@ pub mod Pair
 pub mod Voice
 pub mod Mix
 pub mod Sounding
+pub mod Lent
