@@ -1,19 +1,24 @@
--- Two results that each equal one function of what was lent are equal where that is. Assumes nothing.
-use mathlib.Core.Path.{_≡_, sym, ap, ap₂, _∙_}
+-- Two results of one function are equal where the stores that it was given are. Assumes nothing.
+use mathlib.Core.Path.{_≡_, ap}
 
--- a call that writes no store, over two that it reads
-pub same : {A B C : Type 0} (f : A → B → C) {a a' : A} {b b' : B} {r r' : C} → r ≡ f a b → r' ≡ f a' b' → a ≡ a' → b ≡ b' → r ≡ r'
-same f e e' p q = e ∙ ap₂ f p q ∙ sym e'
+-- of two stores,
+pub same₂ : {A B R : Type 0} (f : A → B → R) {a a' : A} {b b' : B} {r r' : R} → r ≡ f a b → r' ≡ f a' b' → (a ≡ a') × (b ≡ b') → r ≡ r'
+same₂ f e e' p = rw (e, e', p .0, p .1)
 
--- a call that writes one: the answer, and the store as it is left
-pub same-store : {A B C : Type 0} (f : A → B × C) {a a' : A} {r r' : B} {x x' : C} → _≡_ {A = B × C} (r, x) (f a) → _≡_ {A = B × C} (r', x') (f a') → a ≡ a' → (r ≡ r') × (x ≡ x')
-same-store {A} {B} {C} f {a} {a'} {r} {r'} {x} {x'} e e' p =
-    let all : _≡_ {A = B × C} (r, x) (r', x') = e ∙ ap f p ∙ sym e' in
-    (ap (λ (z : B × C). z .0) all, ap (λ (z : B × C). z .1) all)
+-- of three
+pub same₃ : {A B C R : Type 0} (f : A → B → C → R) {a a' : A} {b b' : B} {c c' : C} {r r' : R} → r ≡ f a b c → r' ≡ f a' b' c'
+    → (a ≡ a') × (b ≡ b') × (c ≡ c') → r ≡ r'
+same₃ f e e' p = rw (e, e', p .0, p .1, p .2)
 
--- a call that writes two
-pub same-stores : {A B C D E : Type 0} (f : A → B → C × D × E) {a a' : A} {b b' : B} {r r' : C} {x x' : D} {y y' : E} → _≡_ {A = C × D × E} (r, x, y) (f a b)
-    → _≡_ {A = C × D × E} (r', x', y') (f a' b') → a ≡ a' → b ≡ b' → (r ≡ r') × (x ≡ x') × (y ≡ y')
-same-stores {A} {B} {C} {D} {E} f {a} {a'} {b} {b'} {r} {r'} {x} {x'} {y} {y'} e e' p q =
-    let all : _≡_ {A = C × D × E} (r, x, y) (r', x', y') = e ∙ ap₂ f p q ∙ sym e' in
-    (ap (λ (z : C × D × E). z .0) all, ap (λ (z : C × D × E). z .1) all, ap (λ (z : C × D × E). z .2) all)
+-- and of four
+pub same₄ : {A B C D R : Type 0} (f : A → B → C → D → R) {a a' : A} {b b' : B} {c c' : C} {d d' : D} {r r' : R} → r ≡ f a b c d → r' ≡ f a' b' c' d'
+    → (a ≡ a') × (b ≡ b') × (c ≡ c') × (d ≡ d') → r ≡ r'
+same₄ f e e' p = rw (e, e', p .0, p .1, p .2, p .3)
+
+-- an answer with a store that was written
+pub and-store : {A B : Type 0} {r r' : A} {x x' : B} → _≡_ {A = A × B} (r, x) (r', x') → (r ≡ r') × (x ≡ x')
+and-store {A} {B} e = (ap (λ (z : A × B). z .0) e, ap (λ (z : A × B). z .1) e)
+
+-- with two
+pub and-stores : {A B C : Type 0} {r r' : A} {x x' : B} {y y' : C} → _≡_ {A = A × B × C} (r, x, y) (r', x', y') → (r ≡ r') × (x ≡ x') × (y ≡ y')
+and-stores {A} {B} {C} e = (ap (λ (z : A × B × C). z .0) e, ap (λ (z : A × B × C). z .1) e, ap (λ (z : A × B × C). z .2) e)

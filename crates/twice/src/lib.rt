@@ -1,35 +1,152 @@
-//! Each call twice, on equal arguments and equal stores: what its contract says of both results makes them equal.
+//! Each call twice, with stores of its own the second time: where the stores are equal as they are lent, the answers with
+//! their sessions are equal, and so is every written store as it is left. The contracts of the calls alone show it.
 ghost use mathlib.Core.Path.{_≡_};
+use bank::Kind;
+use clips::LoadAnswered;
+use control::MetricsAnswered;
+use control::PerformanceSnapshot;
+use control::SnapshotAnswered;
+use control::StopAnswered;
 use counts::Handle;
+use counts::SongFrame;
 use session::Answered;
 use session::Session;
+use stage::Settings;
+use submission::ReplayAnswered;
 use submission::SubmitAnswered;
 use timeline::Submission;
 use transport::At;
 
-/// What both calls answered.
-pub struct Twice {
-    pub one: Answered,
-    pub other: Answered,
+// ---- what both calls answered
+
+pub struct Twice(pub Answered, pub Answered);
+
+pub struct LoadTwice(pub LoadAnswered, pub LoadAnswered);
+
+pub struct SubmitTwice(pub SubmitAnswered, pub SubmitAnswered);
+
+pub struct ReplayTwice(pub ReplayAnswered, pub ReplayAnswered);
+
+pub struct StopTwice(pub StopAnswered, pub StopAnswered);
+
+pub struct SnapshotTwice(pub SnapshotAnswered, pub SnapshotAnswered);
+
+pub struct MetricsTwice(pub MetricsAnswered, pub MetricsAnswered);
+
+// ---- the calls that change the bank
+
+pub fn open(
+    settings: Settings,
+    queue: &[u64],
+    capture: &[u64],
+    pool: &mut [f32],
+    samples: &[f32],
+    rate: u32,
+    extent: SongFrame,
+    queue2: &[u64],
+    capture2: &[u64],
+    pool2: &mut [f32],
+    samples2: &[f32],
+) -> LoadTwice
+    requires { ⌜ (now queue ≡ now queue2) × (now capture ≡ now capture2) × (now pool ≡ now pool2) × (now samples ≡ now samples2) ⌝ }
+    ensures { λ r. ⌜ (r .0 ≡ r .1) × (now (pool .exit) ≡ now (pool2 .exit)) ⌝ }
+{
+    let one = clips::open(settings, queue, capture, pool, samples, rate, extent);
+    let other = clips::open(settings, queue2, capture2, pool2, samples2, rate, extent);
+    LoadTwice(one, other)
+}
+
+pub fn load(
+    s: Session,
+    queue: &[u64],
+    capture: &[u64],
+    pool: &mut [f32],
+    samples: &[f32],
+    kind: Kind,
+    rate: u32,
+    queue2: &[u64],
+    capture2: &[u64],
+    pool2: &mut [f32],
+    samples2: &[f32],
+) -> LoadTwice
+    requires { ⌜ (now queue ≡ now queue2) × (now capture ≡ now capture2) × (now pool ≡ now pool2) × (now samples ≡ now samples2) ⌝ }
+    ensures { λ r. ⌜ (r .0 ≡ r .1) × (now (pool .exit) ≡ now (pool2 .exit)) ⌝ }
+{
+    let one = clips::load(s, queue, capture, pool, samples, kind, rate);
+    let other = clips::load(s, queue2, capture2, pool2, samples2, kind, rate);
+    LoadTwice(one, other)
 }
 
 pub fn retire(
     s: Session,
     queue: &[u64],
-    queue2: &[u64],
     capture: &[u64],
-    capture2: &[u64],
     h: Handle,
+    queue2: &[u64],
+    capture2: &[u64],
 ) -> Twice
-    ensures { λ r. ⌜ (now (queue .entry) ≡ now (queue2 .entry) → now (capture .entry) ≡ now (capture2 .entry) → r .one ≡ r .other) ⌝ }
+    requires { ⌜ (now queue ≡ now queue2) × (now capture ≡ now capture2) ⌝ }
+    ensures { λ r. ⌜ r .0 ≡ r .1 ⌝ }
 {
     let one = clips::retire(s, queue, capture, h);
     let other = clips::retire(s, queue2, capture2, h);
-    Twice {
-        one: one,
-        other: other,
-    }
+    Twice(one, other)
 }
+
+// ---- the calls that queue
+
+pub fn submit(
+    s: Session,
+    queue: &mut [u64],
+    capture: &mut [u64],
+    x: Submission,
+    at: At,
+    queue2: &mut [u64],
+    capture2: &mut [u64],
+) -> SubmitTwice
+    requires { ⌜ (now queue ≡ now queue2) × (now capture ≡ now capture2) ⌝ }
+    ensures { λ r. ⌜ (r .0 ≡ r .1) × (now (queue .exit) ≡ now (queue2 .exit)) × (now (capture .exit) ≡ now (capture2 .exit)) ⌝ }
+{
+    let one = submission::submit(s, queue, capture, x, at);
+    let other = submission::submit(s, queue2, capture2, x, at);
+    SubmitTwice(one, other)
+}
+
+pub fn transition(
+    s: Session,
+    queue: &mut [u64],
+    capture: &mut [u64],
+    f: SongFrame,
+    at: At,
+    queue2: &mut [u64],
+    capture2: &mut [u64],
+) -> SubmitTwice
+    requires { ⌜ (now queue ≡ now queue2) × (now capture ≡ now capture2) ⌝ }
+    ensures { λ r. ⌜ (r .0 ≡ r .1) × (now (queue .exit) ≡ now (queue2 .exit)) × (now (capture .exit) ≡ now (capture2 .exit)) ⌝ }
+{
+    let one = submission::transition(s, queue, capture, f, at);
+    let other = submission::transition(s, queue2, capture2, f, at);
+    SubmitTwice(one, other)
+}
+
+pub fn replay(
+    s: Session,
+    queue: &mut [u64],
+    capture: &[u64],
+    list: &[u64],
+    queue2: &mut [u64],
+    capture2: &[u64],
+    list2: &[u64],
+) -> ReplayTwice
+    requires { ⌜ (now queue ≡ now queue2) × (now capture ≡ now capture2) × (now list ≡ now list2) ⌝ }
+    ensures { λ r. ⌜ (r .0 ≡ r .1) × (now (queue .exit) ≡ now (queue2 .exit)) ⌝ }
+{
+    let one = submission::replay(s, queue, capture, list);
+    let other = submission::replay(s, queue2, capture2, list2);
+    ReplayTwice(one, other)
+}
+
+// ---- the block
 
 pub fn block(
     s: Session,
@@ -37,39 +154,95 @@ pub fn block(
     capture: &[u64],
     pool: &[f32],
     out: &mut [f32],
+    queue2: &[u64],
+    capture2: &[u64],
+    pool2: &[f32],
     out2: &mut [f32],
 ) -> Twice
-    ensures { λ r. ⌜ (now (out .entry) ≡ now (out2 .entry) → (r .one ≡ r .other) × (now (out .exit) ≡ now (out2 .exit))) ⌝ }
+    requires { ⌜ (now queue ≡ now queue2) × (now capture ≡ now capture2) × (now pool ≡ now pool2) × (now out ≡ now out2) ⌝ }
+    ensures { λ r. ⌜ (r .0 ≡ r .1) × (now (out .exit) ≡ now (out2 .exit)) ⌝ }
 {
-    let one = block::block(s, queue, capture, pool, &mut out[..]);
-    let other = block::block(s, queue, capture, pool, &mut out2[..]);
-    Twice {
-        one: one,
-        other: other,
-    }
+    let one = block::block(s, queue, capture, pool, out);
+    let other = block::block(s, queue2, capture2, pool2, out2);
+    Twice(one, other)
 }
 
-/// What both submissions answered.
-pub struct SubmitTwice {
-    pub one: SubmitAnswered,
-    pub other: SubmitAnswered,
-}
+// ---- the calls around the performance
 
-pub fn submit(
+pub fn start_capture(
     s: Session,
-    queue: &mut [u64],
-    queue2: &mut [u64],
-    capture: &mut [u64],
-    capture2: &mut [u64],
-    x: Submission,
-    at: At,
-) -> SubmitTwice
-    ensures { λ r. ⌜ (now (queue .entry) ≡ now (queue2 .entry) → now (capture .entry) ≡ now (capture2 .entry) → (r .one ≡ r .other) × (now (queue .exit) ≡ now (queue2 .exit)) × (now (capture .exit) ≡ now (capture2 .exit))) ⌝ }
+    queue: &[u64],
+    capture: &[u64],
+    queue2: &[u64],
+    capture2: &[u64],
+) -> Twice
+    requires { ⌜ (now queue ≡ now queue2) × (now capture ≡ now capture2) ⌝ }
+    ensures { λ r. ⌜ r .0 ≡ r .1 ⌝ }
 {
-    let one = submission::submit(s, &mut queue[..], &mut capture[..], x, at);
-    let other = submission::submit(s, &mut queue2[..], &mut capture2[..], x, at);
-    SubmitTwice {
-        one: one,
-        other: other,
-    }
+    let one = control::start_capture(s, queue, capture);
+    let other = control::start_capture(s, queue2, capture2);
+    Twice(one, other)
+}
+
+pub fn stop_capture(
+    s: Session,
+    queue: &[u64],
+    capture: &[u64],
+    list: &mut [u64],
+    queue2: &[u64],
+    capture2: &[u64],
+    list2: &mut [u64],
+) -> StopTwice
+    requires { ⌜ (now queue ≡ now queue2) × (now capture ≡ now capture2) × (now list ≡ now list2) ⌝ }
+    ensures { λ r. ⌜ (r .0 ≡ r .1) × (now (list .exit) ≡ now (list2 .exit)) ⌝ }
+{
+    let one = control::stop_capture(s, queue, capture, list);
+    let other = control::stop_capture(s, queue2, capture2, list2);
+    StopTwice(one, other)
+}
+
+pub fn snapshot(
+    s: Session,
+    queue: &[u64],
+    capture: &[u64],
+    queue2: &[u64],
+    capture2: &[u64],
+) -> SnapshotTwice
+    requires { ⌜ (now queue ≡ now queue2) × (now capture ≡ now capture2) ⌝ }
+    ensures { λ r. ⌜ r .0 ≡ r .1 ⌝ }
+{
+    let one = control::snapshot(s, queue, capture);
+    let other = control::snapshot(s, queue2, capture2);
+    SnapshotTwice(one, other)
+}
+
+pub fn apply_snapshot(
+    s: Session,
+    queue: &[u64],
+    capture: &[u64],
+    x: PerformanceSnapshot,
+    queue2: &[u64],
+    capture2: &[u64],
+) -> Twice
+    requires { ⌜ (now queue ≡ now queue2) × (now capture ≡ now capture2) ⌝ }
+    ensures { λ r. ⌜ r .0 ≡ r .1 ⌝ }
+{
+    let one = control::apply_snapshot(s, queue, capture, x);
+    let other = control::apply_snapshot(s, queue2, capture2, x);
+    Twice(one, other)
+}
+
+pub fn metrics(
+    s: Session,
+    queue: &[u64],
+    capture: &[u64],
+    queue2: &[u64],
+    capture2: &[u64],
+) -> MetricsTwice
+    requires { ⌜ (now queue ≡ now queue2) × (now capture ≡ now capture2) ⌝ }
+    ensures { λ r. ⌜ r .0 ≡ r .1 ⌝ }
+{
+    let one = control::metrics(s, queue, capture);
+    let other = control::metrics(s, queue2, capture2);
+    MetricsTwice(one, other)
 }

@@ -1,7 +1,7 @@
 -- `submit` twice: what both contracts say makes answers, sessions, queues and captures equal.
 use borrow.Author.Needs.{needs}
 use Rattle.submission.specs.Submit.{submitOf}
-use Rattle.twice.proofs.Same.{same-stores}
+use Rattle.twice.proofs.Same.{and-stores, same₂}
 use Rattle.twice.proofs.submit.Statement.{statement}
 use Rattle.twice.proofs.submit.Tie as tie
 
@@ -26,16 +26,7 @@ same-length-4 c = search needs
 returns : tie.Need-returns
 returns c =
     let a = c .before .before .before .before .before .before .before .before .before .before .before .before .before .before .before .before .before .before in
-    same-stores (λ q l. submitOf (a .args .s) q l (a .args .x) (a .args .at)) (c .before .before .before .before .before .before .before .before .before .before .before .submit .ensures) (c .before .before .before .before .submit2 .ensures)
+    and-stores (same₂ (λ q l. submitOf (a .args .s) q l (a .args .x) (a .args .at)) (c .before .before .before .before .before .before .before .before .before .before .before .submit .ensures) (c .before .before .before .before .submit2 .ensures) (a .pre))
 
 pub submit-spec : {M : Type 1} → statement M
-submit-spec =
-    tie.close
-    (tie.spec
-    submit-requires
-    submit-requires-2
-    same-length
-    same-length-2
-    same-length-3
-    same-length-4
-    returns)
+submit-spec = tie.close (tie.spec submit-requires submit-requires-2 same-length same-length-2 same-length-3 same-length-4 returns)
