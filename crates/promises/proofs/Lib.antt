@@ -1,5 +1,4 @@
 pub mod Numbers
-pub mod Determined
 mod Leaves
 pub mod Tail
 pub mod Kept

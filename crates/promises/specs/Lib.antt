@@ -1,6 +1,5 @@
 pub mod Calls
 pub mod Numbers
-pub mod Determined
 pub mod Tail
 pub mod Kept
 pub mod Exchanged

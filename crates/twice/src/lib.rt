@@ -1,5 +1,6 @@
 //! Each call twice, with stores of its own the second time: where the stores are equal as they are lent, the answers with
-//! their sessions are equal, and so is every written store as it is left. The contracts of the calls alone show it.
+//! their sessions are equal, and so is every written store as it is left. The calls' contracts alone show it, so each of
+//! them determines its result. All NaNs are one float here.
 ghost use mathlib.Core.Path.{_≡_};
 use bank::Kind;
 use clips::LoadAnswered;
