@@ -34,15 +34,19 @@ use Rattle.stage.specs.declared.Stage.{Stage}
 use Rattle.stage.specs.declared.Tail.{Tail}
 use Rattle.stage.specs.Machine.{machineOf}
 use Rattle.session.specs.declared.Session.{Session}
+use Rattle.session.specs.declared.Answered.{Answered}
 use Rattle.session.specs.declared.Refusal.{Refusal}
 use Rattle.session.specs.declared.Weighed.{Weighed}
+use Rattle.session.specs.Answer.{says}
 use Rattle.session.specs.Refusal.{numberOf}
 use Rattle.session.specs.Session.{turnedAway}
 use Rattle.session.specs.WellFormed.{weighOnly}
 use Rattle.session.proofs.Refuse.{stop, skip, unless-fine, unless-refused, only-fine}
 use Rattle.block.specs.Block.{ranOf}
 use Rattle.block.proofs.Pools.{SameClaim, SameTail, views-agree-on}
+use Rattle.clips.specs.Retire.{weighRetire, retireOf}
 use Rattle.clips.proofs.Held.{tailClaim, all-held}
+use Rattle.clips.proofs.Retired.{retired-spent}
 use Rattle.submission.specs.declared.SubmitAnswered.{SubmitAnswered}
 use Rattle.submission.specs.declared.ReplayAnswered.{ReplayAnswered}
 use Rattle.submission.specs.Answer.{saysSubmit}
@@ -51,15 +55,23 @@ use Rattle.submission.specs.Submit.{weighSubmit}
 use Rattle.submission.specs.Order.{waiting}
 use Rattle.submission.specs.Replay.{Replaying, weighReplayed, skippedBy, replayRow, replayed, replayOf}
 use Rattle.submission.proofs.Left.{submit-refused}
-use Rattle.promises.specs.Calls.{State, Call, submit, replay, state, code, refusal, after, afterAll}
+use Rattle.promises.specs.Calls.{State, Call, retire, submit, replay, state, code, refusal, after, afterAll}
 use Rattle.promises.specs.Kept.{Good}
 use Rattle.promises.specs.Retire.{Live, Stale}
 use Rattle.promises.specs.Stale.{AllGiven, WasGiven, skipped, StaleForGood}
 use Rattle.promises.proofs.Leaves.{replayed-leaves}
+use Rattle.promises.proofs.Fine.{zero-fine}
 use Rattle.promises.proofs.Banked.{spent-is, spent-has, spent-stays, kept-by-all}
 use Rattle.promises.proofs.Retire.{stale-says}
 
--- ---- it stays so
+-- ---- it is so, and stays so
+
+retired : (h : Handle) (x : State) → refusal (retire h) x ≡ 0 → WasGiven h (after (retire h) x) × Stale h (after (retire h) x)
+unfolding retireOf
+retired h x e =
+    let fine : weighRetire (x .session) (x .queue) (x .capture) h ≡ Weighed.Fine = zero-fine {A = Answered} _ _ _ (λ z. code (says (z .answer))) (λ k. refl) e in
+    let t = spent-has (after (retire h) x .session .bank) h (retired-spent (x .session) (x .queue) (x .capture) h fine) in
+    ((t .0, t .1), t .2)
 
 stays : (h : Handle) (x : State) (ks : List Call) → Good x → AllGiven ks → WasGiven h x → Stale h x → WasGiven h (afterAll ks x) × Stale h (afterAll ks x)
 stays h x ks g a w e =
@@ -151,4 +163,4 @@ module _ (x : State) (other : View) (g : Good x) (agree : (h : Handle) → Live 
 -- all of it
 pub stale-for-good : StaleForGood
 stale-for-good =
-    record { stays = stays; retiring = stale-says; submitting = submitting; through = through; replaying = replaying; reading = λ x n other g agree. reads-live x other g agree n }
+    record { retired = retired; stays = stays; retiring = stale-says; submitting = submitting; through = through; replaying = replaying; reading = λ x n other g agree. reads-live x other g agree n }

@@ -36,6 +36,8 @@ skipped z =
     record { session = z .session; queue = z .queue; report = reportOf (z .report .taken) (z .report .full) (z .report .skipped + 1) }
 
 pub record StaleForGood : Type 0 where
+  -- a retire that is done leaves its handle so: given, and not live
+  pub retired : (h : Handle) (x : State) → refusal (retire h) x ≡ 0 → WasGiven h (after (retire h) x) × Stale h (after (retire h) x)
   -- a handle whose serial was given and that is not live stays so after any calls
   pub stays : (h : Handle) (x : State) (ks : List Call) → Good x → AllGiven ks → WasGiven h x → Stale h x → WasGiven h (afterAll ks x) × Stale h (afterAll ks x)
   -- retiring a stale handle answers 11,
