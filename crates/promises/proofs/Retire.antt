@@ -7,28 +7,33 @@ use Rattle.counts.specs.declared.Handle.{Handle}
 use Rattle.counts.proofs.Truth.{two-ways, never}
 use Rattle.bank.specs.Slots.{live}
 use Rattle.clips.specs.Retire.{heldNow}
-use Rattle.clips.proofs.Held.{Holder, live-small, held-is, held-has}
+use Rattle.clips.proofs.Held.{Holder, live-small, held-is, held-has, holder-live}
 use Rattle.clips.proofs.Held as clips
 use Rattle.clips.proofs.Retired.{stale-refused, held-refused}
 use Rattle.promises.specs.Calls.{State, retire, code, refusal}
 use Rattle.promises.specs.Kept.{Good}
-use Rattle.promises.specs.Retire.{Live, Stale, Holds, bySong, byTail, byVoice, byQueue, byCapture, Retires, Retire}
+use Rattle.promises.specs.Retire.{Live, Stale, Holds, bySong, byTail, byVoice, byQueue, byCapture, HeldLive, Retires, Retire}
 use Rattle.promises.proofs.Kept.{types}
 
 -- what holds a clip in a state holds it in its session
-pub holder : (h : Handle) (x : State) → Holds h x → Holder h (x .session) (x .queue) (x .capture)
+holder : (h : Handle) (x : State) → Holds h x → Holder h (x .session) (x .queue) (x .capture)
 holder h x (bySong e) = clips.bySong e
 holder h x (byTail at w e) = clips.byTail at w e
 holder h x (byVoice i l e) = clips.byVoice i l e
 holder h x (byQueue j l e) = clips.byQueue j l e
 holder h x (byCapture j l e) = clips.byCapture j l e
 
+-- and the other way
 holds : (h : Handle) (x : State) → Holder h (x .session) (x .queue) (x .capture) → Holds h x
 holds h x (clips.bySong e) = bySong e
 holds h x (clips.byTail at w e) = byTail at w e
 holds h x (clips.byVoice i l e) = byVoice i l e
 holds h x (clips.byQueue j l e) = byQueue j l e
 holds h x (clips.byCapture j l e) = byCapture j l e
+
+-- so it is live
+pub held-live : HeldLive
+held-live h x g y = holder-live h (x .session) (x .queue) (x .capture) (g .formed) (holder h x y)
 
 module _ (h : Handle) (x : State) (g : Good x) where
   -- a stale handle answers 11,

@@ -32,6 +32,10 @@ pub data Holds (h : Handle) (x : State) : Type 0 where
   byQueue : (j : ℕ) → j < x .session .queued → claims h (claimOf (readOf (rowAt (x .queue) j))) ≡ true → Holds h x
   byCapture : (j : ℕ) → j < capturedNow (x .session .desk) → claims h (claimOf (readOf (rowAt (x .capture) j))) ≡ true → Holds h x
 
+-- whatever is held is live, and a block reads no other handle than those that the stage and the queue hold
+abbrev pub HeldLive : Type 0
+HeldLive = (h : Handle) (x : State) → Good x → Holds h x → Live h x
+
 -- each follows from the other
 abbrev pub Exactly : Type 0 → Type 0 → Type 0
 Exactly A B = (A → B) × (B → A)
