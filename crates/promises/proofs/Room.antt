@@ -1,12 +1,12 @@
 -- After a retirement a load of at most its frames is refused with neither 8 nor 10. Assumes nothing.
 use mathlib.Core.Path.{_≡_, refl, sym, ap, _∙_, subst}
 use mathlib.Core.Logic.{_≢_}
-use mathlib.Core.Bool.{Bool, true, false, _||_}
+use mathlib.Core.Bool.{Bool, true, false, _&&_, _||_}
 use mathlib.Core.List.{List}
 use Prim.Native.Nat.{ℕ, _-_, _^_, _≤_, _<_}
 use native.Mathlib.Omega.{arith}
 use borrow.Author.Tests.{ne-eqb}
-use lib.Dec.{eqb, lit≤}
+use lib.Dec.{eqb, leb, lit≤}
 use lib.Ieee.{Float}
 use Rattle.counts.specs.declared.Handle.{Handle}
 use Rattle.counts.specs.Below.{within}
@@ -15,9 +15,10 @@ use Rattle.counts.proofs.Below.{within-high}
 use Rattle.bank.specs.Sample.{framesOf}
 use Rattle.bank.specs.Slots.{clipOf, live, retiredFrom}
 use Rattle.bank.specs.Room.{nowhere}
-use Rattle.bank.specs.WellFormed.{bankOk}
+use Rattle.bank.specs.WellFormed.{rateOk, bankOk}
 use Rattle.bank.proofs.Clauses.{live-has, bank-clip}
 use Rattle.bank.proofs.Kept.{retired-slot, room-again}
+use Rattle.stage.specs.declared.Settings.{Settings}
 use Rattle.session.specs.declared.Session.{Session}
 use Rattle.session.specs.declared.Weighed.{Weighed}
 use Rattle.session.specs.declared.Answered.{Answered}
@@ -65,7 +66,9 @@ module _ (x : State) (c : Clipped) where
 somewhere : (s : Session) (q c : List ℕ) → wellFormed s q c ≡ true → (n : ℕ) → n < s .settings .pool → n ≡ nowhere → ⊥
 unfolding settingsOk
 somewhere s q c formed n l e =
-    let pool : s .settings .pool ≤ 33554432 = within-high 1 33554432 (s .settings .pool) (and-r _ (within 1 33554432 (s .settings .pool)) (parts s q c formed .settings)) in
+    let x : Settings = s .settings in
+    let pool : x .pool ≤ 33554432 = within-high 1 33554432 (x .pool)
+    (and-r (rateOk (x .rate) && within 1 4096 (x .queue) && leb (x .capture) 4096) (within 1 33554432 (x .pool)) (parts s q c formed .settings)) in
     let top : 33554432 ≤ nowhere = lit≤ tt in
     omega (arith, top)
 
