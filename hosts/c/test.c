@@ -90,7 +90,7 @@ int main(void)
     EXPECT(tr_metrics(&t, &metrics) == 0 && metrics.rendered == 4 && metrics.dropped == 1 && metrics.deepest == 4);
 
     EXPECT(strcmp(threshreed_refusal(THRESHREED_STALE), "stale handle") == 0);
-    EXPECT(strcmp(threshreed_refusal(0), "none") == 0 && strcmp(threshreed_refusal(23), "none") == 0);
+    EXPECT(strcmp(threshreed_refusal(0), "none") == 0 && strcmp(threshreed_refusal(254), "none") == 0);
     printf("test: %d as expected\n", expected);
     return 0;
 }

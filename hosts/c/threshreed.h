@@ -46,7 +46,7 @@ extern "C" {
     X(19, HELD, "clip held by song, tail, voice, queue or running capture") \
     X(20, LIST_TOO_SHORT, "list for captured records too short") \
     X(21, UNREADABLE, "replayed record unreadable (seen only as a skip)") \
-    X(22, NO_SUCH_CASE, "argument names no case")
+    X(255, NO_SUCH_CASE, "argument names no case")
 
 /* THRESHREED_NOT_WELL_FORMED to THRESHREED_NO_SUCH_CASE. */
 enum {

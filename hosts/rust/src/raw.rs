@@ -3,8 +3,8 @@
 pub const SLOTS: usize = 32;
 pub const VOICES: usize = 16;
 
-/// The refusal of an argument that names no case.
-pub const NO_SUCH_CASE: u32 = 22;
+/// The refusal of an argument that names no case. It is a host's own, far above the table's.
+pub const NO_SUCH_CASE: u32 = 255;
 
 #[repr(C)]
 #[derive(Clone, Copy, Debug, PartialEq)]

@@ -3,6 +3,8 @@
 use core::error::Error;
 use core::fmt;
 
+use crate::raw;
+
 /// A refused call leaves the session and all its stores as they were; [`QueueFull`](Refusal::QueueFull) alone raises
 /// the dropped count.
 ///
@@ -37,7 +39,7 @@ pub enum Refusal {
     ListTooShort,
     Unreadable,
     /// Never given here, where an argument can only name a case: it is for hosts that pass numbers.
-    NoSuchCase,
+    NoSuchCase = raw::NO_SUCH_CASE,
 }
 
 impl Refusal {
@@ -67,19 +69,18 @@ impl Refusal {
         Refusal::NoSuchCase,
     ];
 
-    /// Its number in the table, 1 to 22.
+    /// Its number, as every answer of the library has it.
     pub const fn number(self) -> u32 {
         self as u32
     }
 
-    /// An answer's number: 0 is none. The library gives no number above 22.
+    /// An answer's number: 0 is none. The library gives no number that is not in the list.
     pub(crate) fn check(number: u32) -> Result<(), Refusal> {
-        match number.checked_sub(1) {
-            None => Ok(()),
-            Some(place) => Err(*Refusal::ALL
-                .get(place as usize)
-                .unwrap_or(&Refusal::NoSuchCase)),
+        if number == 0 {
+            return Ok(());
         }
+        let named = Refusal::ALL.into_iter().find(|x| x.number() == number);
+        Err(named.unwrap_or(Refusal::NoSuchCase))
     }
 
     const fn words(self) -> &'static str {

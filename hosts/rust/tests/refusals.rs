@@ -291,15 +291,18 @@ fn a_session_that_is_not_well_formed() {
 fn an_argument_that_names_no_case() {
     let mut opened = ByHand::open();
     assert_eq!([1, 2].map(|kind| opened.load(kind)), [0, 0]);
-    assert_eq!([0, 3].map(|kind| opened.load(kind)), [22, 22]);
+    assert_eq!([0, 3].map(|kind| opened.load(kind)), [255, 255]);
     assert_eq!([1, 9].map(|kind| opened.submit(kind, 1)), [0, 0]);
     assert_eq!(
         [0, 5, 11, u32::MAX].map(|kind| opened.submit(kind, 1)),
-        [22; 4]
+        [255; 4]
     );
-    assert_eq!([0, 4].map(|at| opened.submit(1, at)), [22, 22]);
+    assert_eq!([0, 4].map(|at| opened.submit(1, at)), [255, 255]);
     assert_eq!(opened.apply(2, 1), 0);
-    assert_eq!([(3, 0), (0, 2)].map(|(x, y)| opened.apply(x, y)), [22, 22]);
+    assert_eq!(
+        [(3, 0), (0, 2)].map(|(x, y)| opened.apply(x, y)),
+        [255, 255]
+    );
     let mut bad = ByHand::with(|s| s.state = 3);
     assert_eq!([bad.load(3), bad.submit(5, 1), bad.apply(3, 0)], [1; 3]);
 }
