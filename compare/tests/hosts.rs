@@ -598,7 +598,7 @@ fn cases() {
     not_well_formed("capturing", |h| h.session.capturing = 2);
     for kind in [0, 3, u32::MAX] {
         not_well_formed("kind", |h| h.session.clips[FREE_SONG as usize].kind = kind);
-        not_well_formed("kind", |h| h.session.clips[31].kind = kind);
+        well_formed("kind", |h| h.session.clips[31].kind = kind);
     }
 
     let refused = |names: &[&str], change: &dyn Fn(&mut Arguments)| {
@@ -647,9 +647,14 @@ fn any_bits() {
             s.deepest = word() as usize;
             s.dropped = word();
             s.clips[FREE_STINGER as usize].extent = word();
-            s.clips[31].start = word();
-            s.clips[31].frames = word();
-            s.clips[31].serial = word() as u32;
+            s.clips[31] = Clip {
+                serial: word() as u32,
+                kind: word() as u32,
+                extent: word(),
+                start: word(),
+                frames: word(),
+                rate: word() as u32,
+            };
             s.voices.table[2].handle.slot = word() as u32;
             s.voices.table[15].head = word() as usize;
             if word() % 2 == 0 {

@@ -121,7 +121,7 @@ typedef struct {
     uint32_t remaining;
 } ThreshreedRamp;
 
-/* Extent: a song's length; not used of a stinger. */
+/* Extent: a song's length; not used of a stinger. Of a slot that is not used nothing is. */
 typedef struct {
     uint32_t serial;
     uint32_t kind;

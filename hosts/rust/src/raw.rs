@@ -31,7 +31,7 @@ pub struct Ramp {
     pub remaining: u32,
 }
 
-/// Kind: 1 a song, 2 a stinger, whose `extent` is not used.
+/// Kind: 1 a song, 2 a stinger, whose `extent` is not used. Of a slot that is not used nothing is.
 #[repr(C)]
 #[derive(Clone, Copy, Debug, PartialEq)]
 pub struct Clip {

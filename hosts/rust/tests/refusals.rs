@@ -278,12 +278,57 @@ fn a_session_that_is_not_well_formed() {
         |s| s.state = 3,
         |s| s.looped.set = 2,
         |s| s.capturing = 2,
-        |s| s.clips[31].kind = 0,
+        |s| s.clips[0].kind = 0,
         |s| s.position = 2,
         |s| s.queued = usize::MAX,
     ];
     for change in changes {
         assert_eq!(ByHand::with(change).frame(), NotWellFormed.number());
+    }
+}
+
+/// Nothing of an unused slot is looked at, its kind as little as the rest.
+#[test]
+fn unused_slots_that_hold_anything() {
+    let opened = ByHand::open();
+    let (mut q, c, mut p) = (opened.queue, opened.capture, opened.pool);
+    let loaded = raw::load(opened.session, &q, &c, &mut p, &PAIR, 2, 0, RATE);
+    let play = raw::Command {
+        kind: 1,
+        gain: f32::NAN,
+        clip: loaded.handle,
+        frame: 0,
+        end: 0,
+    };
+    let now = raw::At { kind: 1, frame: 0 };
+    for kind in [0, 1, 2, 3, u32::MAX] {
+        let mut s = loaded.session;
+        for clip in &mut s.clips[2..] {
+            // The song's serial and room, a length below its frames, no rate.
+            *clip = raw::Clip {
+                serial: 1,
+                kind,
+                extent: 0,
+                start: 0,
+                frames: u64::MAX,
+                rate: 0,
+            };
+        }
+        let snapped = raw::snapshot(s, &q, &c);
+        let refusals = [
+            raw::load(s, &q, &c, &mut p, &PAIR, 1, 1, RATE).refusal,
+            raw::retire(s, &q, &c, loaded.handle).refusal,
+            raw::submit(s, &mut q, &mut [], play, now).refusal,
+            raw::transition(s, &mut q, &mut [], 0, now).refusal,
+            raw::replay(s, &mut q, &c, &[]).refusal,
+            raw::block(s, &q, &c, &p, &mut [9.0; 2]).refusal,
+            raw::start_capture(s, &q, &c).refusal,
+            raw::stop_capture(s, &q, &c, &mut []).refusal,
+            snapped.refusal,
+            raw::apply_snapshot(s, &q, &c, snapped.snapshot).refusal,
+            raw::metrics(s, &q, &c).refusal,
+        ];
+        assert_eq!(refusals, [0; 11], "kind {kind}");
     }
 }
 
