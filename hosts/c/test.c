@@ -1,4 +1,5 @@
-/* The header's own part: the stores that it keeps, what it reads, the refusals' words, NULL where nothing is lent. */
+/* The header's own part: the session and the stores that it keeps, what it reads, the refusals' words, NULL where
+ * nothing is lent. */
 #include <math.h>
 #include <stdio.h>
 #include <stdlib.h>
@@ -19,11 +20,98 @@ static void expect(bool holds, const char *fact, int line)
     expected += 1;
 }
 
+static const float pair[] = {0.5f, -0.5f, 0.25f, 0.25f};
+static const float seven[7];
+
+/* There is no session: each call but tr_open is refused with 1. */
+static void expect_none(Threshreed *t)
+{
+    const ThreshreedHandle clip = {0, 1};
+    const ThreshreedSnapshot start = {0, THRESHREED_STOPPED, 1.0f, {0, 0, 0}};
+    float out[2];
+    EXPECT(tr_load_song(t, pair, LEN(pair), 48000, 2, NULL) == THRESHREED_NOT_WELL_FORMED);
+    EXPECT(tr_load_stinger(t, pair, LEN(pair), 48000, NULL) == THRESHREED_NOT_WELL_FORMED);
+    EXPECT(tr_retire(t, clip) == THRESHREED_NOT_WELL_FORMED);
+    EXPECT(tr_submit(t, tr_play(), tr_now()) == THRESHREED_NOT_WELL_FORMED);
+    EXPECT(tr_transition(t, 0, tr_now()) == THRESHREED_NOT_WELL_FORMED);
+    EXPECT(tr_replay(t, NULL, 0, NULL) == THRESHREED_NOT_WELL_FORMED);
+    EXPECT(tr_block(t, out, LEN(out)) == THRESHREED_NOT_WELL_FORMED);
+    EXPECT(tr_start_capture(t) == THRESHREED_NOT_WELL_FORMED);
+    EXPECT(tr_stop_capture(t, NULL, 0, NULL) == THRESHREED_NOT_WELL_FORMED);
+    EXPECT(tr_snapshot(t, NULL) == THRESHREED_NOT_WELL_FORMED);
+    EXPECT(tr_apply_snapshot(t, start) == THRESHREED_NOT_WELL_FORMED);
+    EXPECT(tr_metrics(t, NULL) == THRESHREED_NOT_WELL_FORMED);
+}
+
+/* A host with all that is its own. */
+typedef struct {
+    Threshreed t;
+    uint64_t queue[4 * THRESHREED_WORDS], capture[2 * THRESHREED_WORDS];
+    float pool[2 * 8], out[2 * 2];
+} Host;
+
+static void lend(Host *h)
+{
+    memset(h, 0, sizeof *h);
+    tr_lend(&h->t, h->queue, LEN(h->queue), h->capture, LEN(h->capture), h->pool, LEN(h->pool));
+}
+
+/* One frame of the pair has sounded, a ride is on its way and a stop is queued. */
+static void play(Host *h)
+{
+    lend(h);
+    EXPECT(tr_open(&h->t, 48000, pair, LEN(pair), 48000, 8) == 0);
+    EXPECT(tr_submit(&h->t, tr_play(), tr_now()) == 0 && tr_submit(&h->t, tr_gain(0.5f), tr_now()) == 0);
+    EXPECT(tr_submit(&h->t, tr_stop(), tr_at_clock(2)) == 0 && tr_block(&h->t, h->out, 2) == 0);
+}
+
+/* The same session in every field; the bytes between fields are nobody's. */
+static bool same(const ThreshreedSession *a, const ThreshreedSession *b)
+{
+#define SAME(field) (memcmp(&a->field, &b->field, sizeof a->field) == 0)
+    for (int i = 0; i < THRESHREED_SLOTS; i += 1) {
+        if (!(SAME(clips[i].serial) && SAME(clips[i].kind) && SAME(clips[i].extent) && SAME(clips[i].start) &&
+              SAME(clips[i].frames) && SAME(clips[i].rate))) {
+            return false;
+        }
+    }
+    return SAME(settings.rate) && SAME(settings.queue) && SAME(settings.capture) && SAME(settings.pool) &&
+           SAME(used) && SAME(last) && SAME(clock) && SAME(state) && SAME(position) && SAME(cursor) &&
+           SAME(looped.set) && SAME(looped.start) && SAME(looped.end) && SAME(song) && SAME(master) &&
+           SAME(tail.sounding) && SAME(tail.song) && SAME(tail.cursor) && SAME(tail.weight) && SAME(voices) &&
+           SAME(counters) && SAME(queued) && SAME(number) && SAME(deepest) && SAME(dropped) && SAME(capturing) &&
+           SAME(captured);
+#undef SAME
+}
+
+/* A refused opening leaves things as they were: without a session, or with the one that plays. */
+static void refused_openings(void)
+{
+    static Host host, before, other;
+    lend(&host);
+    expect_none(&host.t);
+    lend(&host);
+    memcpy(&before, &host, sizeof host);
+    EXPECT(tr_open(&host.t, 48000, seven, LEN(seven), 48000, 8) == THRESHREED_ODD_SAMPLES);
+    EXPECT(memcmp(&before, &host, sizeof host) == 0);
+    expect_none(&host.t);
+
+    play(&host);
+    play(&other);
+    memcpy(&before, &host, sizeof host);
+    EXPECT(tr_open(&host.t, 48000, seven, LEN(seven), 48000, 8) == THRESHREED_ODD_SAMPLES);
+    EXPECT(same(&before.t.session, &host.t.session));
+    EXPECT(memcmp(before.queue, host.queue, sizeof host.queue) == 0);
+    EXPECT(memcmp(before.pool, host.pool, sizeof host.pool) == 0);
+    EXPECT(tr_block(&host.t, host.out, LEN(host.out)) == 0 && tr_block(&other.t, other.out, LEN(other.out)) == 0);
+    EXPECT(memcmp(host.out, other.out, sizeof host.out) == 0 && host.out[0] > 0.2f && host.out[2] == 0.0f);
+    EXPECT(same(&host.t.session, &other.t.session) && tr_clock(&host.t) == 3);
+}
+
 int main(void)
 {
     uint64_t queue[4 * THRESHREED_WORDS], list[2 * THRESHREED_WORDS];
     float pool[2 * 4], out[2 * 4];
-    const float pair[] = {0.5f, -0.5f, 0.25f, 0.25f};
     ThreshreedHandle porch, bell, again;
     ThreshreedSnapshot snapshot;
     ThreshreedMetrics metrics;
@@ -31,14 +119,15 @@ int main(void)
     size_t copied;
     Threshreed t;
 
-    /* Nothing is lent, and before opening there is no session. */
+    refused_openings();
+
+    /* Nothing is lent. */
     tr_lend(&t, NULL, 0, NULL, 0, NULL, 0);
     EXPECT(tr_open(&t, 48000, NULL, 0, 48000, 1) == THRESHREED_OUT_OF_RANGE);
-    EXPECT(tr_block(&t, NULL, 0) == THRESHREED_NOT_WELL_FORMED);
+    expect_none(&t);
     tr_lend(&t, NULL, 40, NULL, 40, NULL, 8);
     EXPECT(tr_open(&t, 48000, NULL, 8, 48000, 1) == THRESHREED_OUT_OF_RANGE);
     tr_lend(&t, queue, LEN(queue), NULL, 0, pool, LEN(pool));
-    EXPECT(tr_block(&t, out, LEN(out)) == THRESHREED_NOT_WELL_FORMED);
     EXPECT(tr_open(&t, 48000, NULL, 0, 48000, 1) == THRESHREED_NO_SAMPLES);
 
     /* Opening is stopped at 0, gain 1. */

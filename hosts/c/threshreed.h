@@ -410,7 +410,7 @@ THRESHREED_OFFSET(Metered, session, 56);
 
 /* ---- the proved functions, a session by value in and out */
 
-/* Opens a session on its first song. */
+/* Opens a session on its first song. A refused one has no session to hand back: every call refuses what it gives. */
 ThreshreedLoaded threshreed_open(ThreshreedSettings settings, const uint64_t *queue, size_t queue_len,
                                  const uint64_t *capture, size_t capture_len, float *pool, size_t pool_len,
                                  const float *samples, size_t samples_len, uint32_t rate, uint64_t extent);
@@ -478,7 +478,7 @@ typedef struct {
 
 /* Lends the stores: THRESHREED_WORDS words for each of the 1 to 4,096 commands of the queue and of the 0 to 4,096 of
  * the capture, two samples for each of the 1 to 33,554,432 frames of the pool. They are the session's until its end.
- * There is none yet, and every call but tr_open is refused with 1. */
+ * This comes first. There is no session until tr_open opens one, and each other call is refused with 1. */
 static inline void tr_lend(Threshreed *t, uint64_t *queue, size_t queue_len, uint64_t *capture, size_t capture_len,
                            float *pool, size_t pool_len)
 {
@@ -495,7 +495,7 @@ static inline void tr_lend(Threshreed *t, uint64_t *queue, size_t queue_len, uin
 }
 
 /* Opens a session on its first song, stopped at 0, gain 1.0. `length` in frames, from those in the samples to 2^40:
- * past its samples a song is silent. */
+ * past its samples a song is silent. A session that runs is given up, unless the call is refused. */
 static inline uint32_t tr_open(Threshreed *t, uint32_t rate, const float *samples, size_t samples_len,
                                uint32_t song_rate, uint64_t length)
 {
@@ -507,7 +507,10 @@ static inline uint32_t tr_open(Threshreed *t, uint32_t rate, const float *sample
     ThreshreedLoaded r =
         threshreed_open(settings, t->queue, t->queue_len, t->capture, t->capture_len, t->pool, t->pool_len,
                         samples ? samples : t->pool, samples ? samples_len : 0, song_rate, length);
-    t->session = r.session;
+    /* A refused opening hands back no session. */
+    if (r.refusal == 0) {
+        t->session = r.session;
+    }
     return r.refusal;
 }
 

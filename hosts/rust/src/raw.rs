@@ -345,7 +345,7 @@ unsafe extern "C" {
 // elements, and that what is written overlaps nothing else that is lent: slices and their borrows give just that, an
 // empty slice too. Nothing is kept of a pointer after the call, and the types above have no bits that they may not have.
 
-/// Opens a session on its first song.
+/// Opens a session on its first song. A refused one has no session to hand back: every call refuses what it gives.
 pub fn open(
     settings: Settings,
     queue: &[u64],

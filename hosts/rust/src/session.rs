@@ -66,7 +66,8 @@ impl<const QUEUE: usize, const CAPTURE: usize, const POOL: usize> Stores<QUEUE, 
         }
     }
 
-    /// Opens a session on its first song, in these stores.
+    /// Opens a session on its first song, in these stores: they are its own until it is dropped. Of what an earlier
+    /// session left in them nothing counts. A refused opening leaves them as they were.
     pub fn open(&mut self, rate: u32, song: Song<'_>) -> Result<Session<'_>, Refusal> {
         Session::open(
             rate,
@@ -97,7 +98,8 @@ pub struct Session<'a> {
 
 impl<'a> Session<'a> {
     /// Opens a session on its first song, stopped at 0, gain 1.0. The stores are [`WORDS`] words for each command of
-    /// the queue and of the capture, and two samples for each frame of the pool.
+    /// the queue and of the capture, and two samples for each frame of the pool. A refused opening gives no session and
+    /// leaves them as they were.
     ///
     /// ```
     /// use threshreed::{Refusal, Session, Song, WORDS};

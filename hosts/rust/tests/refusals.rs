@@ -59,6 +59,15 @@ fn opening() {
 }
 
 #[test]
+fn opening_again() {
+    let mut stores = Small::new();
+    let mut session = open(&mut stores);
+    now(&mut session, Command::Play).unwrap();
+    assert_eq!(stores.open(7_999, song()).err(), Some(OutOfRange));
+    assert_eq!(open(&mut stores).queue_depth(), 0);
+}
+
+#[test]
 fn loading() {
     let mut stores = Small::new();
     let mut session = open(&mut stores);
