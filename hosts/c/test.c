@@ -1,5 +1,5 @@
 /* The header's own part: the session and the stores that it keeps, what it reads, the refusals' words, NULL where
- * nothing is lent. */
+ * nothing is lent or wanted. */
 #include <math.h>
 #include <stdio.h>
 #include <stdlib.h>
@@ -108,6 +108,37 @@ static void refused_openings(void)
     EXPECT(same(&host.t.session, &other.t.session) && tr_clock(&host.t) == 3);
 }
 
+/* A list's length is in words: a remainder is not looked at, and not written. */
+static void lists_in_words(void)
+{
+    uint64_t list[] = {99, 99, 99, 99, 99, 99, 99};
+    ThreshreedReport report;
+    size_t copied = 99;
+    static Host host;
+    play(&host);
+    EXPECT(tr_start_capture(&host.t) == 0 && tr_submit(&host.t, tr_pause(), tr_now()) == 0);
+    EXPECT(tr_stop_capture(&host.t, list, 4, &copied) == THRESHREED_LIST_TOO_SHORT && copied == 99);
+    EXPECT(host.t.session.capturing == 1 && host.t.session.captured == 1);
+    EXPECT(tr_stop_capture(&host.t, list, LEN(list), &copied) == 0 && copied == 1);
+    EXPECT(list[1] == 4 && list[2] == THRESHREED_PAUSE && list[5] == 99 && list[6] == 99);
+    EXPECT(tr_replay(&host.t, list, 4, &report) == 0 && report.taken == 0 && report.skipped == 0);
+    EXPECT(tr_replay(&host.t, list, LEN(list), &report) == 0 && report.taken == 1 && report.skipped == 0);
+}
+
+/* NULL for a result that is not wanted. */
+static void unwanted_results(void)
+{
+    uint64_t list[2 * THRESHREED_WORDS];
+    static Host host;
+    play(&host);
+    EXPECT(tr_load_song(&host.t, pair, LEN(pair), 48000, 2, NULL) == 0 && host.t.session.last == 2);
+    EXPECT(tr_load_stinger(&host.t, pair, LEN(pair), 48000, NULL) == 0 && host.t.session.last == 3);
+    EXPECT(tr_start_capture(&host.t) == 0 && tr_submit(&host.t, tr_pause(), tr_now()) == 0);
+    EXPECT(tr_stop_capture(&host.t, list, LEN(list), NULL) == 0 && list[2] == THRESHREED_PAUSE);
+    EXPECT(tr_replay(&host.t, list, THRESHREED_WORDS, NULL) == 0 && tr_queue_depth(&host.t) == 3);
+    EXPECT(tr_snapshot(&host.t, NULL) == 0 && tr_metrics(&host.t, NULL) == 0);
+}
+
 int main(void)
 {
     uint64_t queue[4 * THRESHREED_WORDS], list[2 * THRESHREED_WORDS];
@@ -120,6 +151,8 @@ int main(void)
     Threshreed t;
 
     refused_openings();
+    lists_in_words();
+    unwanted_results();
 
     /* Nothing is lent. */
     tr_lend(&t, NULL, 0, NULL, 0, NULL, 0);

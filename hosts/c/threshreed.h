@@ -4,7 +4,8 @@
  * There is no heap. `Threshreed` holds a session and the stores that a host lends it, and the functions `tr_...` take a
  * pointer to it. Above them stand the proved functions themselves, `threshreed_...`, which take a session by value and
  * hand it back. Any argument is safe but a bad pointer: what a host lends must have as many elements as it says, and
- * what is written must overlap nothing else that is lent. A `tr_...` call takes NULL as nothing lent.
+ * what is written must overlap nothing else that is lent. A `tr_...` call takes NULL as nothing lent, and for a result
+ * as one that is not wanted.
  *
  * Every `tr_...` call answers 0 or a refusal's number. A refused call leaves the session and all stores as they were;
  * 15 alone raises the dropped count.
@@ -433,7 +434,7 @@ ThreshreedSubmitted threshreed_submit(ThreshreedSession session, uint64_t *queue
 ThreshreedSubmitted threshreed_transition(ThreshreedSession session, uint64_t *queue, size_t queue_len,
                                           uint64_t *capture, size_t capture_len, uint64_t frame, ThreshreedAt at);
 
-/* Queues the records of a list at their frames. */
+/* Queues the records of a list at their frames. `list_len` is in words, five a record; a remainder is not looked at. */
 ThreshreedReplayed threshreed_replay(ThreshreedSession session, uint64_t *queue, size_t queue_len,
                                      const uint64_t *capture, size_t capture_len, const uint64_t *list,
                                      size_t list_len);
@@ -447,7 +448,8 @@ ThreshreedAnswered threshreed_block(ThreshreedSession session, const uint64_t *q
 ThreshreedAnswered threshreed_start_capture(ThreshreedSession session, const uint64_t *queue, size_t queue_len,
                                             const uint64_t *capture, size_t capture_len);
 
-/* Stops capture and copies its records to the list's front. */
+/* Stops capture and copies its records to the list's front. `list_len` is in words; below five for each captured record
+ * it is refused with 20, and words past them stay as they were. */
 ThreshreedStopped threshreed_stop_capture(ThreshreedSession session, const uint64_t *queue, size_t queue_len,
                                           const uint64_t *capture, size_t capture_len, uint64_t *list,
                                           size_t list_len);
@@ -522,7 +524,7 @@ static inline uint32_t tr_load(Threshreed *t, const float *samples, size_t sampl
         threshreed_load(t->session, t->queue, t->queue_len, t->capture, t->capture_len, t->pool, t->pool_len,
                         samples ? samples : t->pool, samples ? samples_len : 0, kind, length, rate);
     t->session = r.session;
-    if (r.refusal == 0) {
+    if (r.refusal == 0 && handle) {
         *handle = r.handle;
     }
     return r.refusal;
@@ -571,13 +573,14 @@ static inline uint32_t tr_transition(Threshreed *t, uint64_t frame, ThreshreedAt
     return r.refusal;
 }
 
-/* Queues a list's records, THRESHREED_WORDS words each, at their frames, without capture. */
+/* Queues a list's records at their frames, without capture. `list_len` is in words, THRESHREED_WORDS a record; a
+ * remainder is not looked at. */
 static inline uint32_t tr_replay(Threshreed *t, const uint64_t *list, size_t list_len, ThreshreedReport *report)
 {
     ThreshreedReplayed r = threshreed_replay(t->session, t->queue, t->queue_len, t->capture, t->capture_len,
                                              list ? list : t->queue, list ? list_len : 0);
     t->session = r.session;
-    if (r.refusal == 0) {
+    if (r.refusal == 0 && report) {
         *report = r.report;
     }
     return r.refusal;
@@ -602,13 +605,15 @@ static inline uint32_t tr_start_capture(Threshreed *t)
     return r.refusal;
 }
 
-/* Stops capture and copies its records to the list's front; none if capture is off. */
+/* Stops capture and copies its records to the list's front; none if capture is off. `list_len` is in words, `copied` in
+ * records. Below THRESHREED_WORDS words for each captured record it is refused with 20, and capture goes on; words past
+ * them stay as they were. */
 static inline uint32_t tr_stop_capture(Threshreed *t, uint64_t *list, size_t list_len, size_t *copied)
 {
     ThreshreedStopped r = threshreed_stop_capture(t->session, t->queue, t->queue_len, t->capture, t->capture_len,
                                                   list ? list : t->queue, list ? list_len : 0);
     t->session = r.session;
-    if (r.refusal == 0) {
+    if (r.refusal == 0 && copied) {
         *copied = r.copied;
     }
     return r.refusal;
@@ -618,7 +623,7 @@ static inline uint32_t tr_stop_capture(Threshreed *t, uint64_t *list, size_t lis
 static inline uint32_t tr_snapshot(const Threshreed *t, ThreshreedSnapshot *snapshot)
 {
     ThreshreedSnapped r = threshreed_snapshot(t->session, t->queue, t->queue_len, t->capture, t->capture_len);
-    if (r.refusal == 0) {
+    if (r.refusal == 0 && snapshot) {
         *snapshot = r.snapshot;
     }
     return r.refusal;
@@ -637,7 +642,7 @@ static inline uint32_t tr_apply_snapshot(Threshreed *t, ThreshreedSnapshot snaps
 static inline uint32_t tr_metrics(const Threshreed *t, ThreshreedMetrics *metrics)
 {
     ThreshreedMetered r = threshreed_metrics(t->session, t->queue, t->queue_len, t->capture, t->capture_len);
-    if (r.refusal == 0) {
+    if (r.refusal == 0 && metrics) {
         *metrics = r.metrics;
     }
     return r.refusal;

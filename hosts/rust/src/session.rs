@@ -224,8 +224,8 @@ impl<'a> Session<'a> {
         self.number(submitted)
     }
 
-    /// Queues a list's records, [`WORDS`] words each, at their frames, without capture. Tells how many were taken, how
-    /// many found the queue full, and how many were skipped otherwise.
+    /// Queues a list's records, [`WORDS`] words each, at their frames, without capture; a remainder is not looked at.
+    /// Tells how many were taken, how many found the queue full, and how many were skipped otherwise.
     pub fn replay(&mut self, list: &[u64]) -> Result<Report, Refusal> {
         let replayed = raw::replay(self.raw, self.queue, self.capture, list);
         self.raw = replayed.session;
@@ -246,7 +246,8 @@ impl<'a> Session<'a> {
         self.answer(answered)
     }
 
-    /// Stops capture, copies its records to the list's front and answers how many: none if capture is off.
+    /// Stops capture, copies its records to the list's front and answers how many: none if capture is off. A list of
+    /// less than [`WORDS`] words for each is [too short](Refusal::ListTooShort), and capture goes on.
     ///
     /// ```
     /// use threshreed::{At, ClockFrame, Command, Song, Stores, WORDS};
