@@ -9,6 +9,9 @@
  *
  * Every `tr_...` call answers 0 or a refusal's number. A refused call leaves the session and all stores as they were;
  * 15 alone raises the dropped count.
+ *
+ * A call needs 19 to 24 KB of stack, its caller's copies of the session among them, however much there is to play. Who
+ * makes one should have THRESHREED_STACK bytes left: stack.c measures each call, and fails above that.
  */
 #ifndef THRESHREED_H
 #define THRESHREED_H
@@ -73,7 +76,9 @@ enum {
     THRESHREED_SLOTS = 32,
     THRESHREED_VOICES = 16,
     /* Words of a record: clock frame, number, kind, and two that the kind uses. */
-    THRESHREED_WORDS = 5
+    THRESHREED_WORDS = 5,
+    /* Bytes of stack that are enough for any call. */
+    THRESHREED_STACK = 32768
 };
 
 /* A clip's kind. */
