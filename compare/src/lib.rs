@@ -11,6 +11,7 @@
 //!   static library, 2,000 random sessions on both, the fixed list, and the planted faults.
 //! - `cargo run --release --bin sessions -- 20000 [first seed]`: as many sessions as are wanted.
 //! - `cargo run --release --bin answers`: writes the fixed list.
+//! - `cargo run --release --bin speed`: how fast both are; `compare/instructions` counts instructions instead.
 
 pub mod both;
 pub mod clip;

@@ -3,7 +3,11 @@
 //! Both sides play the same clips. A case is timed in rounds, ours and tono's by turns; a run's time is the median of
 //! its rounds, and the table gives the median of several runs, and the least and the greatest ratio. The proved calls
 //! check the session and its stores every time; a block of no frames is that check alone, timed in the same round.
+//!
+//! `speed blocks` names the cases of one block. `speed N ours`, `check`, `tono` or `none` makes the one in line N, from
+//! 0, up to that call, which comes last, and measures nothing: the script `compare/instructions` does.
 
+use std::env;
 use std::hint::black_box;
 use std::time::Instant;
 
@@ -222,34 +226,94 @@ enum During {
     Swap,
 }
 
-/// One block of so many frames.
-fn block(frames: usize, voices: usize, waiting: usize, during: During) -> Time {
-    let mut stores = Stores::new();
-    let mut both = Both::playing(&mut stores);
-    both.wait(waiting);
-    both.ring(voices);
-    both.block(&mut [0.0; 256]);
-    let mut out = vec![0.0; frames * 2];
-    let mut louder = false;
-    run(ROUNDS, || {
-        match during {
-            During::Rest => {}
+/// A case of one block: so many frames, with so many voices and commands that wait.
+struct Block {
+    name: String,
+    frames: usize,
+    voices: usize,
+    waiting: usize,
+    during: During,
+}
+
+impl Block {
+    fn scene<'a>(&self, stores: &'a mut Stores) -> Scene<'a> {
+        let mut both = Both::playing(stores);
+        both.wait(self.waiting);
+        both.ring(self.voices);
+        both.block(&mut [0.0; 256]);
+        Scene {
+            both,
+            during: self.during,
+            louder: false,
+            out: vec![0.0; self.frames * 2],
+        }
+    }
+
+    fn time(&self) -> Time {
+        let mut stores = Stores::new();
+        let mut scene = self.scene(&mut stores);
+        run(ROUNDS, || scene.round())
+    }
+
+    /// The same up to one call, which is made or left out: a counter of instructions tells the two runs apart.
+    fn count(&self, call: &str) {
+        let mut stores = Stores::new();
+        let mut scene = self.scene(&mut stores);
+        scene.round();
+        scene.prepare();
+        match call {
+            "ours" => scene.ours(),
+            "check" => scene.check(),
+            "tono" => scene.tono(),
+            "none" => {}
+            _ => panic!("ours, check, tono or none"),
+        }
+    }
+}
+
+/// Both sides where a block is timed, round by round.
+struct Scene<'a> {
+    both: Both<'a>,
+    during: During,
+    louder: bool,
+    out: Vec<f32>,
+}
+
+impl Scene<'_> {
+    fn prepare(&mut self) {
+        match self.during {
+            During::Rest => return,
             During::Gain => {
-                louder = !louder;
-                both.gain(if louder { 1.5 } else { 0.5 }, 0);
-                both.block(&mut [0.0; 2]);
+                self.louder = !self.louder;
+                self.both.gain(if self.louder { 1.5 } else { 0.5 }, 0);
             }
-            During::Swap => {
-                both.swap();
-                both.block(&mut [0.0; 2]);
-            }
+            During::Swap => self.both.swap(),
         }
+        self.both.block(&mut [0.0; 2]);
+    }
+
+    fn ours(&mut self) {
+        let made = self.both.ours.block(black_box(&mut self.out));
+        black_box(made).expect("the block is made");
+    }
+
+    fn check(&mut self) {
+        let made = self.both.ours.block(black_box(&mut []));
+        black_box(made).expect("the block is made");
+    }
+
+    fn tono(&mut self) {
+        self.both.tono.fill(black_box(&mut self.out));
+    }
+
+    fn round(&mut self) -> Time {
+        self.prepare();
         Time {
-            ours: nanoseconds(|| both.ours.block(black_box(&mut out))),
-            check: nanoseconds(|| both.ours.block(black_box(&mut []))),
-            tono: nanoseconds(|| both.tono.fill(black_box(&mut out))),
+            ours: nanoseconds(|| self.ours()),
+            check: nanoseconds(|| self.check()),
+            tono: nanoseconds(|| self.tono()),
         }
-    })
+    }
 }
 
 /// A submission into a queue of 4,095 or a little less: the last 64 places, one after the other.
@@ -316,40 +380,60 @@ fn voiced(voices: usize) -> String {
     }
 }
 
-fn main() {
-    println!(
-        "| case | ours, µs | its check, µs | tono, µs | ratio | ratio without the check |\n|---|---|---|---|---|---|"
-    );
+fn blocks() -> Vec<Block> {
+    let block = |name: String, frames, voices, waiting, during| Block {
+        name,
+        frames,
+        voices,
+        waiting,
+        during,
+    };
+    let mut blocks = Vec::new();
     for (name, during) in [
         ("at rest", During::Rest),
         ("during a gain ride", During::Gain),
         ("during a swap", During::Swap),
     ] {
         for voices in [0, 1, 16] {
-            let voiced = voiced(voices);
-            line(&format!("a block of 512 frames, {voiced}, {name}"), || {
-                block(512, voices, 0, during)
-            });
+            let name = format!("a block of 512 frames, {}, {name}", voiced(voices));
+            blocks.push(block(name, 512, voices, 0, during));
         }
     }
     for voices in [2, 4, 8] {
-        let voiced = voiced(voices);
-        line(&format!("a block of 512 frames, {voiced}, at rest"), || {
-            block(512, voices, 0, During::Rest)
-        });
+        let name = format!("a block of 512 frames, {}, at rest", voiced(voices));
+        blocks.push(block(name, 512, voices, 0, During::Rest));
     }
     for frames in [1, 64, 4_096] {
-        line(
-            &format!("a block of length {frames}, 1 voice, at rest"),
-            || block(frames, 1, 0, During::Rest),
-        );
+        let name = format!("a block of length {frames}, 1 voice, at rest");
+        blocks.push(block(name, frames, 1, 0, During::Rest));
     }
     for waiting in [64, 512, 4_095] {
-        line(
-            &format!("a block of 512 frames, 1 voice, {waiting} commands waiting"),
-            || block(512, 1, waiting, During::Rest),
-        );
+        let name = format!("a block of 512 frames, 1 voice, {waiting} commands waiting");
+        blocks.push(block(name, 512, 1, waiting, During::Rest));
     }
-    line("a submission into a queue of 4,095", || run(5, submission));
-    line("a load of a million frames", load);
+    blocks
+}
+
+fn main() {
+    let words: Vec<String> = env::args().skip(1).collect();
+    let words: Vec<&str> = words.iter().map(String::as_str).collect();
+    let blocks = blocks();
+    match words[..] {
+        [] => {
+            println!(
+                "| case | ours, µs | its check, µs | tono, µs | ratio | ratio without the check |\n|---|---|---|---|---|---|"
+            );
+            for block in &blocks {
+                line(&block.name, || block.time());
+            }
+            line("a submission into a queue of 4,095", || run(5, submission));
+            line("a load of a million frames", load);
+        }
+        ["blocks"] => blocks.iter().for_each(|block| println!("{}", block.name)),
+        [number, call] => {
+            let number: usize = number.parse().expect("a block has a number");
+            blocks[number].count(call);
+        }
+        _ => panic!("no word, `blocks`, or a block's number and a call"),
+    }
 }
