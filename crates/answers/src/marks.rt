@@ -1,6 +1,7 @@
 //! The clips that seeds make, and the digests of samples and records.
 ghost use Prim.Native.Nat.{_≤_};
 ghost use lib.ListN.{length};
+use print::bits;
 
 /// The samples that a seed makes, as many as a pool holds: a clip is the first of them.
 pub fn made(seed: u64) -> [f32; 65536] {
@@ -28,14 +29,6 @@ fn sample(x: u64) -> f32 {
 /// A digest with one more word of 32 bits.
 fn stir(digest: u64, word: u64) -> u64 {
     (digest % 4294967291 * 16777619 + word % 4294967296) % 4294967291
-}
-
-/// The bits of a number; every NaN has the same.
-pub fn bits(x: f32) -> u64 {
-    if x != x {
-        return 2143289344;
-    }
-    f32::to_bits(x) as u64
 }
 
 /// The digest of the first n samples.

@@ -2,7 +2,6 @@
 ghost use Prim.Native.Nat.{_≤_};
 use crate::asked;
 use crate::lines::Line;
-use crate::marks::bits;
 use clips::LoadAnswer;
 use clips::LoadAnswered;
 use control::PerformanceSnapshot;
@@ -11,6 +10,7 @@ use control::SnapshotAnswered;
 use control::StopAnswer;
 use control::StopAnswered;
 use counts::SongFrame;
+use print::bits;
 use session::Answer;
 use session::Answered;
 use session::Refusal;

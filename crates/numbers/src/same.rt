@@ -6,6 +6,7 @@ use counts::Handle;
 use counts::SongFrame;
 use oneshot::Voice;
 use oneshot::Voices;
+use print::bits;
 use ramp::Ramp;
 use session::Desk;
 use session::Session;
@@ -33,6 +34,11 @@ pub fn words(a: &[u64], b: &[u64]) -> bool {
     a.len() == b.len()
 }
 
+/// Two floats are the same by their bits: -0.0 is not +0.0.
+fn float(a: f32, b: f32) -> bool {
+    bits(a) == bits(b)
+}
+
 /// Two pools, or two outputs, have the same samples.
 pub fn samples(a: &[f32], b: &[f32]) -> bool {
     let mut i: usize = 0;
@@ -40,7 +46,7 @@ pub fn samples(a: &[f32], b: &[f32]) -> bool {
         if i >= b.len() {
             return false;
         }
-        if a[i] != b[i] {
+        if !float(a[i], b[i]) {
             return false;
         }
         i += 1;
@@ -129,10 +135,10 @@ fn transport(a: Transport, b: Transport) -> bool {
 }
 
 fn gain(a: Ramp, b: Ramp) -> bool {
-    (a.value == b.value)
-        & (a.target == b.target)
-        & (a.step == b.step)
-        & (a.remaining == b.remaining)
+    let values = float(a.value, b.value);
+    let targets = float(a.target, b.target);
+    let steps = float(a.step, b.step);
+    values & targets & steps & (a.remaining == b.remaining)
 }
 
 fn tail(a: Tail, b: Tail) -> bool {

@@ -1,4 +1,4 @@
-//! Writes answers and samples, for the programs.
+//! Writes answers and samples, and gives the bits of a float, for the programs.
 use clips::LoadAnswer;
 use control::MetricsAnswer;
 use control::SnapshotAnswer;
@@ -17,6 +17,14 @@ pub fn text(s: &[u8]) {
 
 pub fn number(n: u64) {
     io::print_decimal(STDOUT_FILENO, n);
+}
+
+/// The bits of a number; every NaN has the same.
+pub fn bits(x: f32) -> u64 {
+    if x != x {
+        return 2143289344;
+    }
+    f32::to_bits(x) as u64
 }
 
 /// The whole part of a number; 0 for one below 0 or from 2^64 on.

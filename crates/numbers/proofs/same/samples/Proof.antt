@@ -17,17 +17,20 @@ loop-holds c = search needs
 returns : tie.Need-returns Inv-loop μ-loop
 returns c = search needs
 
-mul-if2 : tie.Need-mul-if2 Inv-loop μ-loop
-mul-if2 c = search needs
+mul-float : tie.Need-mul-float Inv-loop μ-loop
+mul-float c = search needs
 
-shared-slice-read-if2 : tie.Need-shared-slice-read-if2 Inv-loop μ-loop
-shared-slice-read-if2 c = search needs
+shared-slice-read-float : tie.Need-shared-slice-read-float Inv-loop μ-loop
+shared-slice-read-float c = search needs
 
-mul-if2-2 : tie.Need-mul-if2-2 Inv-loop μ-loop
-mul-if2-2 c = search needs
+mul-float-2 : tie.Need-mul-float-2 Inv-loop μ-loop
+mul-float-2 c = search needs
 
-shared-slice-read-if2-2 : tie.Need-shared-slice-read-if2-2 Inv-loop μ-loop
-shared-slice-read-if2-2 c = search needs
+shared-slice-read-float-2 : tie.Need-shared-slice-read-float-2 Inv-loop μ-loop
+shared-slice-read-float-2 c = search needs
+
+float-requires : tie.Need-float-requires Inv-loop μ-loop
+float-requires c κs = search needs
 
 returns-2 : tie.Need-returns-2 Inv-loop μ-loop
 returns-2 c = search needs
@@ -52,10 +55,11 @@ samples-spec =
     μ-loop
     loop-holds
     returns
-    mul-if2
-    shared-slice-read-if2
-    mul-if2-2
-    shared-slice-read-if2-2
+    mul-float
+    shared-slice-read-float
+    mul-float-2
+    shared-slice-read-float-2
+    float-requires
     returns-2
     add-i
     loop-less

@@ -7,8 +7,8 @@ use lib.Ieee.Bits.{toBits-lt}
 use borrow.Author.Needs.{needs}
 use native.Mathlib.Omega.{arith}
 use Rattle.counts.proofs.Truth.{T-is}
-use Rattle.answers.proofs.marks.bits.Statement.{statement}
-use Rattle.answers.proofs.marks.bits.Tie as tie
+use Rattle.print.proofs.bits.Statement.{statement}
+use Rattle.print.proofs.bits.Tie as tie
 
 no-nan : (x : Float) → ne x x ≡ false → T (not (isNan x))
 unfolding ne isNan
