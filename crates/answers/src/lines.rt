@@ -1,4 +1,7 @@
 //! Lines of the list: decimal numbers, between which every byte that is no digit is skipped.
+ghost use mathlib.Core.Path.{_≡_};
+ghost use Prim.Native.Nat.{_<_};
+ghost use Rattle.answers.specs.Lines.{agreesAt, sameNumbers};
 
 /// The largest number of 64 bits.
 const LAST: u64 = 18446744073709551615;
@@ -45,16 +48,27 @@ impl Line {
     }
 }
 
+/// A line ends before a place, or another has the same number there.
+fn agrees_at(a: Line, b: Line, i: usize) -> bool
+    requires { ⌜ i < 24 ⌝ }
+    ensures { λ r. ⌜ r ≡ agreesAt a b i ⌝ }
+{
+    (a.count <= i) | (a.words[i] == b.words[i])
+}
+
 /// Two lines have the same numbers.
-pub fn same(a: Line, b: Line) -> bool {
+pub fn same(a: Line, b: Line) -> bool
+    ensures { λ r. ⌜ r ≡ sameNumbers a b ⌝ }
+{
     let mut i: usize = 0;
     while i < 24 {
-        if a.words[i] != b.words[i] {
+        if agrees_at(a, b, i) {
+            i += 1;
+        } else {
             return false;
         }
-        i += 1;
     }
-    a.count == b.count
+    (a.count == b.count) & (a.readable & b.readable)
 }
 
 /// A line being read: the numbers before, and the one whose digits are read, if one is.

@@ -1,4 +1,6 @@
 //! The walk through the list, and what it tells.
+ghost use mathlib.Core.Path.{_≡_};
+ghost use Rattle.answers.specs.Lines.{oneMore, counted};
 use crate::asked;
 use crate::calls;
 use crate::calls::SAMPLES;
@@ -53,7 +55,9 @@ impl Walk {
     }
 
     /// One difference more.
-    fn differs(mut self) -> Walk {
+    fn differs(mut self) -> Walk
+        ensures { λ r. ⌜ r .differences ≡ oneMore (self .differences) ⌝ }
+    {
         self.differences = std::num::wrapping_add_u64(self.differences, 1);
         self
     }
@@ -102,7 +106,9 @@ impl Walk {
     }
 
     /// A call is over: our side stands as it left it.
-    fn called(mut self, told: Told, first: u64) -> Walk {
+    fn called(mut self, told: Told, first: u64) -> Walk
+        ensures { λ r. ⌜ r .differences ≡ counted (self .asks) (told .ours) (self .differences) ⌝ }
+    {
         let was = self.reached;
         let old = self.seat;
         let seat = told.seat;
@@ -115,7 +121,9 @@ impl Walk {
     }
 
     /// Our numbers are the Rust's, or they differ.
-    fn compared(self, ours: Line) -> Walk {
+    fn compared(self, ours: Line) -> Walk
+        ensures { λ r. ⌜ r .differences ≡ counted (self .asks) ours (self .differences) ⌝ }
+    {
         let rust = self.asks;
         if lines::same(rust, ours) {
             return self;
