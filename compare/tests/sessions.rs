@@ -1,6 +1,7 @@
 //! Random sessions on both sides, and the fixed list.
 
 use std::fs;
+use std::path::Path;
 
 use compare::list;
 use compare::sessions;
@@ -18,7 +19,17 @@ fn the_fixed_list_is_what_the_writer_writes() {
     println!("{reached}");
     assert_eq!(reached.missing(), Vec::<&str>::new(), "never reached");
     assert!(text.len() <= list::MOST_BYTES);
-    let committed = fs::read_to_string(list::path()).expect("the list is there");
+    is_committed(&list::path(), &text);
+}
+
+#[test]
+fn the_list_with_mistakes_is_what_the_writer_writes() {
+    let text = list::mistaken().unwrap_or_else(|x| panic!("{x}"));
+    is_committed(&list::mistaken_path(), &text);
+}
+
+fn is_committed(path: &Path, text: &str) {
+    let committed = fs::read_to_string(path).expect("the list is there");
     assert!(
         committed == text,
         "the list is old: run `cargo run --release --bin answers`"

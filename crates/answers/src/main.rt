@@ -1,4 +1,4 @@
-//! Replays the fixed list of the Rust's answers on our own calls, and compares answer and state after every call.
+//! Replays the fixed list of the Rust's answers on our own calls, and compares answer and state after every call; then a list with mistakes in it, which must be found.
 mod asked;
 mod calls;
 mod lines;
@@ -10,9 +10,9 @@ mod walk;
 
 use walk::ROOM;
 
-/// Reads the list; what cannot be read is a list without a line.
-fn read(bytes: &mut [u8; ROOM]) -> usize {
-    let fd = os::open_read(b"answers");
+/// Reads a list; what cannot be read is a list without a line.
+fn read(bytes: &mut [u8; ROOM], name: &[u8]) -> usize {
+    let fd = os::open_read(name);
     if fd < 0 {
         return 0;
     }
@@ -21,8 +21,15 @@ fn read(bytes: &mut [u8; ROOM]) -> usize {
     count
 }
 
+fn replay(bytes: &mut [u8; ROOM], name: &[u8]) {
+    let count = read(bytes, name);
+    walk::list(bytes, count);
+}
+
+/// The Rust's answers, and then a list that is wrong: what finds nothing in the first must find that.
 fn main() {
     let mut bytes = [0; ROOM];
-    let count = read(&mut bytes);
-    walk::list(&bytes, count);
+    replay(&mut bytes, b"answers");
+    print::text(b"\na list in which one number is wrong for each kind of call\n");
+    replay(&mut bytes, b"mistaken");
 }

@@ -1,4 +1,4 @@
-//! The walk through the list, and what it tells.
+//! The walk through a list, and what it tells.
 ghost use mathlib.Core.Path.{_≡_};
 ghost use Rattle.answers.specs.Lines.{oneMore, counted};
 use crate::asked;
@@ -21,6 +21,9 @@ const MOST: usize = 500000;
 
 /// One byte more: a longer list fills it.
 pub const ROOM: usize = 500001;
+
+/// So many differences are told; the others are counted.
+const TOLD: u64 = 16;
 
 /// Where the walk stands: our side and its first queued frame, what was reached, the line that was read, its number and
 /// the next one's place, how many sessions the first line names, the differences, and whether it is over.
@@ -128,7 +131,7 @@ impl Walk {
         if lines::same(rust, ours) {
             return self;
         }
-        if self.differences < 10 {
+        if self.differences < TOLD {
             self.place();
             both(rust, ours);
         }
