@@ -2,17 +2,18 @@
 use mathlib.Core.Path.{_≡_, refl, sym, ap, subst, _∙_}
 use mathlib.Core.Logic.{⊎-elim}
 use mathlib.Core.Bool.{Bool, true, false, cond}
-use mathlib.Core.List.{List, [], _∷_}
-use Prim.Native.Nat.{ℕ, zero, suc, _+_, _≤_, _<_, min}
+use mathlib.Core.List.{List}
+use Prim.Native.Nat.{ℕ, _+_, _≤_, _<_, min}
 use native.Mathlib.Omega.{arith}
 use lib.Dec.{eqb}
 use lib.ListN.{length, take, length-set}
 use lib.Seq.{getD-set-other, take-all, take-length}
 use lib.Ieee.{Float}
-use borrow.Author.Tests.{leb-true}
 use Rattle.laws.specs.Queue.{Each}
-use Rattle.laws.specs.Block.{Machine, At, Ran, stand, ran, still, after, due, executing, framing, drain, one, run, block}
-use Rattle.laws.proofs.Clock.{drain-clock}
+use Rattle.laws.specs.Alike.{Maps}
+use Rattle.laws.specs.Block.{At, stand, block}
+use Rattle.laws.proofs.Lists.{each-map}
+use Rattle.laws.proofs.Mapped.{block-agrees}
 use Rattle.counts.specs.declared.Handle.{Handle}
 use Rattle.counts.specs.declared.Claim.{Claim}
 use Rattle.counts.proofs.Truth.{lt-or-le}
@@ -23,7 +24,7 @@ use Rattle.timeline.specs.Command.{claimOf}
 use Rattle.timeline.specs.Queue.{queue, frame}
 use Rattle.transport.specs.Transport.{cursorOn}
 use Rattle.bank.specs.Sample.{framesOf}
-use Rattle.bank.specs.Recording.{Recording, View, viewOf}
+use Rattle.bank.specs.Recording.{View, viewOf}
 use Rattle.oneshot.specs.declared.Voice.{Voice}
 use Rattle.oneshot.specs.declared.Voices.{Voices}
 use Rattle.oneshot.specs.declared.Pair.{Pair}
@@ -37,11 +38,10 @@ use Rattle.oneshot.proofs.Agree.{views-agree}
 use Rattle.stage.specs.declared.Settings.{Settings}
 use Rattle.stage.specs.declared.Tail.{Tail}
 use Rattle.stage.specs.declared.Stage.{Stage}
-use Rattle.stage.specs.declared.Framed.{Framed}
 use Rattle.stage.specs.Playhead.{movedOf, playheadBy}
 use Rattle.stage.specs.Sound.{withTail, tailOn, renderedOf, soundBy}
 use Rattle.stage.specs.Stage.{frameOf, executeOf}
-use Rattle.stage.specs.Machine.{Told, toldOf, machineOf}
+use Rattle.stage.specs.Machine.{machineOf}
 use Rattle.stage.proofs.Clock.{clocked}
 use Rattle.session.specs.declared.Session.{Session}
 use Rattle.block.specs.Block.{weighBlock, ranOf, blockOf}
@@ -162,82 +162,27 @@ module _ (view other : View) where
   exec-keeps x n (Command.Stinger h g) s a e =
       record { song = a .song; tail = a .tail; voices = standing-added SameVoice (s .sound .voices) (firedOf (x .rate) h g) (a .voices) e }
 
-  module _ (x : Settings) where
-    abbrev m : Machine Stage QueueRecord Pair Told
-    m = machineOf x view
+  agrees : (x : Settings)
+      → Maps (λ s. s) (λ a. a) (λ e. e) Agree (λ d d'. (d' ≡ d) × SameClaim (claimOf (d .command))) (machineOf x view) (machineOf x other)
+  agrees x =
+      record {
+        clocks = λ s p. refl;
+        execs = λ d d' s p q. rw (q .0, p .song);
+        tells = λ d d' s p q. rw (q .0, p .song);
+        nexts = λ s p. rw (frame-agrees x s p);
+        makes = λ s p. rw (frame-agrees x s p);
+        keeps = λ d d' s p q. exec-keeps x (view (s .playhead .song) .extent) (d .command) s p (q .1);
+        goes = λ s p. frame-keeps x s p;
+      }
 
-    abbrev k : Machine Stage QueueRecord Pair Told
-    k = machineOf x other
-
-    -- the views agree on what commands for frames before t name
-    abbrev Before : ℕ → QueueRecord → Type 0
-    Before t r = frame r < t → SameClaim (claimOf (r .command))
-
-    -- both did the same, and agree on what is held and named then
-    record Agreeing (t : ℕ) (r r' : Ran Stage QueueRecord Pair Told) : Type 0 where
-      same : r' ≡ r
-      held : Agree (r .at .core)
-      named : Each (Before t) (r .at .queue)
-
-    -- a command reads no more than the length of the song that plays
-    executing-agrees : (d : QueueRecord) (s : Stage) (q : List QueueRecord) → Agree s → executing k d s q ≡ executing m d s q
-    executing-agrees d s q a =
-        ap (λ (r : Recording). ran (stand (executeOf x (r .extent) (d .command) s) q) [] (toldOf (s .clock) (r .extent) d (s .playhead) ∷ [])) (sym (a .song))
-
-    either : (t : ℕ) (b : Bool) (r r' : Ran Stage QueueRecord Pair Told) (s : Stage) (q : List QueueRecord) → Agree s → Each (Before t) q → (b ≡ true → Agreeing t r r')
-        → Agreeing t (cond b r (still (stand s q))) (cond b r' (still (stand s q)))
-    either t true r r' s q a e f = f refl
-    either t false r r' s q a e f = record { same = refl; held = a; named = e }
-
-    drain-agrees : (t : ℕ) (s : Stage) (q : List QueueRecord) → s .clock .0 < t → Agree s → Each (Before t) q → Agreeing t (drain m s q) (drain k s q)
-    drain-agrees t s [] l a e = record { same = refl; held = a; named = tt }
-    drain-agrees t s (d ∷ q) l a e =
-        either t (due m d s) _ _ s (d ∷ q) a e
-        (λ h.
-        let c : Stage = m .exec d s in
-        let early : frame d ≤ s .clock .0 = leb-true (frame d) (s .clock .0) h in
-        let stays : c .clock .0 ≡ s .clock .0 = clocked x view .stays d s in
-        let r = drain-agrees t c q (omega arith) (exec-keeps x (view (s .playhead .song) .extent) (d .command) s a (e .0 (omega arith))) (e .1) in
-        record {
-          same =
-              ap (λ (z : Ran Stage QueueRecord Pair Told). after z (drain k (z .at .core) q)) (executing-agrees d s q a) ∙ ap (after (executing m d s q)) (r .same);
-          held = r .held;
-          named = r .named;
-        })
-
-    run-agrees : (t n : ℕ) (at : At Stage QueueRecord) → at .core .clock .0 + n ≤ t → Agree (at .core) → Each (Before t) (at .queue) → Agreeing t (run m n at) (run k n at)
-    unfolding run
-    run-agrees t zero at l a e = record { same = refl; held = a; named = e }
-    run-agrees t (suc n) at l a e =
-        let y : Ran Stage QueueRecord Pair Told = drain m (at .core) (at .queue) in
-        let r = drain-agrees t (at .core) (at .queue) (omega arith) a e in
-        let f : framing k (y .at .core) (y .at .queue) ≡ framing m (y .at .core) (y .at .queue) =
-        ap (λ (z : Framed). ran (stand (z .stage) (y .at .queue)) (z .out ∷ []) []) (frame-agrees x (y .at .core) (r .held)) in
-        let z : Ran Stage QueueRecord Pair Told = framing m (y .at .core) (y .at .queue) in
-        let w = run-agrees t n (z .at) (omega (arith, l, clocked x view .ticks (y .at .core), drain-clock m (clocked x view) (at .core) (at .queue))) (frame-keeps x (y .at .core) (r .held)) (r .named) in
-        record {
-          same =
-              ap (λ (u : Ran Stage QueueRecord Pair Told). after u (after (framing k (u .at .core) (u .at .queue)) (run k n (framing k (u .at .core) (u .at .queue) .at)))) (r .same)
-              ∙ ap (λ (u : Ran Stage QueueRecord Pair Told). after y (after u (run k n (u .at)))) f
-              ∙ ap (λ (u : Ran Stage QueueRecord Pair Told). after y (after z u)) (w .same);
-          held = w .held;
-          named = w .named;
-        }
-
-    one-agrees : (s : Stage) (q : List QueueRecord) → Agree s → one k s q ≡ one m s q
-    one-agrees s [] a = refl
-    one-agrees s (d ∷ q) a = ap (λ (r : Ran Stage QueueRecord Pair Told). cond (due m d s) r (still (stand s (d ∷ q)))) (executing-agrees d s q a)
-
-    -- a block reads no other clips than those that the stage holds and those that commands before its end name: one at its end is executed and not read
-    pub views-agree-on : (n : ℕ) (at : At Stage QueueRecord) → SameHeld (at .core)
-        → Each (λ r. frame r < at .core .clock .0 + n → SameClaim (claimOf (r .command))) (at .queue)
-        → block (machineOf x other) n at ≡ block (machineOf x view) n at
-    unfolding block
-    views-agree-on zero at h q = refl
-    views-agree-on (suc n) at h q =
-        let r = run-agrees (at .core .clock .0 + suc n) (suc n) at (omega arith) (record { song = h .song; tail = h .tail; voices = λ i l. h .voices i (omega arith) }) q in
-        ap (λ (z : Ran Stage QueueRecord Pair Told). after z (one k (z .at .core) (z .at .queue))) (r .same)
-        ∙ ap (after (run m (suc n) at)) (one-agrees (run m (suc n) at .at .core) (run m (suc n) at .at .queue) (r .held))
+  -- a block reads no other clips than those that the stage holds and those that commands before its end name: one at its end is executed and not read
+  pub views-agree-on : (x : Settings) (n : ℕ) (at : At Stage QueueRecord) → SameHeld (at .core)
+      → Each (λ r. frame r < at .core .clock .0 + n → SameClaim (claimOf (r .command))) (at .queue)
+      → block (machineOf x other) n at ≡ block (machineOf x view) n at
+  views-agree-on x n at h q =
+      block-agrees (machineOf x view) Agree (λ d d'. (d' ≡ d) × SameClaim (claimOf (d .command))) (machineOf x other) (agrees x) (clocked x view)
+      (λ d. refl) (λ d s p. (rw (p .song), rw (p .song))) n at (record { song = h .song; tail = h .tail; voices = λ i l. h .voices i (omega arith) })
+      (each-map _ _ (λ r f l. (refl, f l)) (at .queue) q)
 
 -- ---- two pools
 
