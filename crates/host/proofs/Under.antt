@@ -55,16 +55,12 @@ use Rattle.host.specs.declared.HostSnapped.{HostSnapped}
 use Rattle.host.specs.declared.HostMetrics.{HostMetrics}
 use Rattle.host.specs.Kept.{isKind, kindOf, sessionOf, hostOf}
 use Rattle.host.specs.Arguments.{isSubmission, submissionOf, isAt, atOf, isSnapshot, snapshotOf}
-use Rattle.host.specs.Answers.{turned, weighHost, unless as unlessHost, answeredBy, loadedBy, openedBy, submittedBy, replayedBy, stoppedBy, snappedBy, meteredBy}
+use Rattle.host.specs.Answers.{saysBy, turned, weighHost, unless as unlessHost, answeredBy, loadedBy, openedBy, submittedBy, replayedBy, stoppedBy, snappedBy, meteredBy}
 use Rattle.host.specs.Calls.{openHost, loadHost, retireHost, submitHost, transitionHost, replayHost, blockHost, startCaptureHost, stopCaptureHost, snapshotHost, applyHost, metricsHost}
 use Rattle.host.proofs.Round.{there-and-back, snapshot-back}
 use Rattle.host.proofs.Refusals.{withStore, withStores, turned-matches, turned-same}
 
 -- ---- what a host reads, in the rules' terms
-
--- 0 is a value, any other number its refusal
-abbrev pub saysBy : {A : Type 0} → ℕ → A → Says A
-saysBy n v = cond (eqb n 0) (gives v) (refused n)
 
 -- a call that gives no value: retire, block, start capture, apply snapshot,
 abbrev pub readAnswered : HostAnswered → Says (Unit {0}) × Session

@@ -9,6 +9,8 @@ use Rattle.transport.specs.declared.LoopRange.{LoopRange}
 use Rattle.session.specs.declared.Answer.{Answer}
 use Rattle.session.specs.declared.Answered.{Answered}
 use Rattle.session.specs.Refusal.{numberOf}
+use Rattle.session.specs.Answer.{Says}
+use Rattle.session.specs.Answer as rules
 use Rattle.session.specs.WellFormed.{wellFormed}
 use Rattle.clips.specs.declared.LoadAnswer.{LoadAnswer}
 use Rattle.clips.specs.declared.LoadAnswered.{LoadAnswered}
@@ -36,6 +38,10 @@ use Rattle.host.specs.declared.HostSnapped.{HostSnapped}
 use Rattle.host.specs.declared.HostMetrics.{HostMetrics}
 use Rattle.host.specs.Kept.{loopNumbers, noHandle, isSession, sessionOf, hostOf}
 use Rattle.host.specs.Arguments.{snapshotNumbers}
+
+-- what a host reads of an answer, in the rules' terms: 0 is its value, any other number its refusal
+abbrev pub saysBy : {A : Type 0} → ℕ → A → Says A
+saysBy n v = cond (eqb n 0) (rules.gives v) (rules.refused n)
 
 -- the same with another dropped count
 abbrev pub withDropped : HostSession → ℕ → HostSession

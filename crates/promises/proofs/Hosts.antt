@@ -37,14 +37,14 @@ use Rattle.host.specs.declared.HostStopped.{HostStopped}
 use Rattle.host.specs.declared.HostSnapped.{HostSnapped}
 use Rattle.host.specs.declared.HostMetrics.{HostMetrics}
 use Rattle.host.specs.Kept.{kindsOk, isSession, hostOf}
-use Rattle.host.specs.Answers.{withDropped, turned, weighHost, unless as unlessHost, refused as refusedHost, answeredBy, loadRefused, loadedBy, openedBy, submitRefused, submittedBy, replayRefused, replayedBy, stopRefused, stoppedBy, snapshotRefused, snappedBy, metricsRefused, meteredBy}
+use Rattle.host.specs.Answers.{saysBy, withDropped, turned, weighHost, unless as unlessHost, refused as refusedHost, answeredBy, loadRefused, loadedBy, openedBy, submitRefused, submittedBy, replayRefused, replayedBy, stopRefused, stoppedBy, snapshotRefused, snappedBy, metricsRefused, meteredBy}
 use Rattle.host.specs.Calls.{openHost, loadHost, retireHost, submitHost, transitionHost, replayHost, blockHost, startCaptureHost, stopCaptureHost, snapshotHost, applyHost, metricsHost}
 use Rattle.host.proofs.Round.{names}
 use Rattle.host.proofs.Refusals.{withStore, withStores, turned-same, weighed-fine, weighed-unnamed, each-way, load-stays, retire-stays, submit-stays, transition-stays, replay-stays, block-stays, start-stays, stop-stays, snapshot-stays, apply-stays, metrics-stays}
-use Rattle.host.proofs.Under.{saysBy, open-under, load-under, retire-under, submit-under, transition-under, replay-under, block-under, start-under, stop-under, snapshot-under, apply-under, metrics-under}
+use Rattle.host.proofs.Under.{open-under, load-under, retire-under, submit-under, transition-under, replay-under, block-under, start-under, stop-under, snapshot-under, apply-under, metrics-under}
 use Rattle.promises.specs.Calls.{State, state, withSession, code, refusal, after, Opening, opened, Reached, atOpening, afterCall}
 use Rattle.promises.specs.Hosts as hosts
-use Rattle.promises.specs.Hosts.{HostState, HostCall, hostState, keeping, stateOf, hostRefusal, hostAfter, hostOut, hostList, hostOpened, named, callOf, HostReached, DoesItsCall, ForHosts, HostRefused}
+use Rattle.promises.specs.Hosts.{HostState, HostCall, hostState, keeping, stateOf, hostRefusal, hostAfter, hostOut, hostList, hostOpened, named, callOf, HostReached, DoesItsCall, OpensAsCall, ForHosts, HostRefused}
 use Rattle.promises.specs.Kept.{Good}
 use Rattle.promises.proofs.Kept.{reached-good}
 use Rattle.promises.proofs.Refused.{refused}
@@ -82,16 +82,18 @@ does : (k : HostCall) (x : HostState) → weighHost (x .session) (x .queue) (x .
 does (hosts.load samples kind extent rate) x w =
     let e = load-under (x .session) (x .queue) (x .capture) (x .pool) samples kind extent rate w in
     record {
+      answer = ap (λ (z : (Says Handle × Session) × List Float). z .0 .0) e;
       number = code-by _ _ ∙ ap (λ (z : (Says Handle × Session) × List Float). code (z .0 .0)) e;
       state = ap (λ (z : (Says Handle × Session) × List Float). state (z .0 .1) (x .queue) (x .capture) (z .1)) e;
       output = refl;
     }
 does (hosts.retire h) x w =
     let e = retire-under (x .session) (x .queue) (x .capture) h w in
-    record { number = code-by _ _ ∙ ap (λ (z : Says (Unit {0}) × Session). code (z .0)) e; state = ap (λ (z : Says (Unit {0}) × Session). withSession (stateOf x) (z .1)) e; output = refl }
+    record { answer = ap (λ (z : Says (Unit {0}) × Session). z .0) e; number = code-by _ _ ∙ ap (λ (z : Says (Unit {0}) × Session). code (z .0)) e; state = ap (λ (z : Says (Unit {0}) × Session). withSession (stateOf x) (z .1)) e; output = refl }
 does (hosts.submit y at) x w =
     let e = submit-under (x .session) (x .queue) (x .capture) y at w in
     record {
+      answer = ap (λ (z : (Says ℕ × Session) × List ℕ × List ℕ). z .0 .0) e;
       number = code-by _ _ ∙ ap (λ (z : (Says ℕ × Session) × List ℕ × List ℕ). code (z .0 .0)) e;
       state = ap (λ (z : (Says ℕ × Session) × List ℕ × List ℕ). state (z .0 .1) (z .1) (z .2) (x .pool)) e;
       output = refl;
@@ -99,6 +101,7 @@ does (hosts.submit y at) x w =
 does (hosts.transition f at) x w =
     let e = transition-under (x .session) (x .queue) (x .capture) f at w in
     record {
+      answer = ap (λ (z : (Says ℕ × Session) × List ℕ × List ℕ). z .0 .0) e;
       number = code-by _ _ ∙ ap (λ (z : (Says ℕ × Session) × List ℕ × List ℕ). code (z .0 .0)) e;
       state = ap (λ (z : (Says ℕ × Session) × List ℕ × List ℕ). state (z .0 .1) (z .1) (z .2) (x .pool)) e;
       output = refl;
@@ -106,16 +109,18 @@ does (hosts.transition f at) x w =
 does (hosts.block out) x w =
     let e = block-under (x .session) (x .queue) (x .capture) (x .pool) out w in
     record {
+      answer = ap (λ (z : (Says (Unit {0}) × Session) × List Float). z .0 .0) e;
       number = code-by _ _ ∙ ap (λ (z : (Says (Unit {0}) × Session) × List Float). code (z .0 .0)) e;
       state = ap (λ (z : (Says (Unit {0}) × Session) × List Float). withSession (stateOf x) (z .0 .1)) e;
       output = ap (λ (z : (Says (Unit {0}) × Session) × List Float). z .1) e;
     }
 does hosts.startCapture x w =
     let e = start-under (x .session) (x .queue) (x .capture) w in
-    record { number = code-by _ _ ∙ ap (λ (z : Says (Unit {0}) × Session). code (z .0)) e; state = ap (λ (z : Says (Unit {0}) × Session). withSession (stateOf x) (z .1)) e; output = refl }
+    record { answer = ap (λ (z : Says (Unit {0}) × Session). z .0) e; number = code-by _ _ ∙ ap (λ (z : Says (Unit {0}) × Session). code (z .0)) e; state = ap (λ (z : Says (Unit {0}) × Session). withSession (stateOf x) (z .1)) e; output = refl }
 does (hosts.stopCapture list) x w =
     let e = stop-under (x .session) (x .queue) (x .capture) list w in
     record {
+      answer = (ap (λ (z : (Says ℕ × Session) × List ℕ). z .0 .0) e, ap (λ (z : (Says ℕ × Session) × List ℕ). z .1) e);
       number = code-by _ _ ∙ ap (λ (z : (Says ℕ × Session) × List ℕ). code (z .0 .0)) e;
       state = ap (λ (z : (Says ℕ × Session) × List ℕ). withSession (stateOf x) (z .0 .1)) e;
       output = refl;
@@ -123,6 +128,7 @@ does (hosts.stopCapture list) x w =
 does (hosts.replay list) x w =
     let e = replay-under (x .session) (x .queue) (x .capture) list w in
     record {
+      answer = ap (λ (z : (Says Report × Session) × List ℕ). z .0 .0) e;
       number = code-by _ _ ∙ ap (λ (z : (Says Report × Session) × List ℕ). code (z .0 .0)) e;
       state = ap (λ (z : (Says Report × Session) × List ℕ). state (z .0 .1) (z .1) (x .capture) (x .pool)) e;
       output = refl;
@@ -130,16 +136,18 @@ does (hosts.replay list) x w =
 does hosts.snapshot x w =
     let e = snapshot-under (x .session) (x .queue) (x .capture) w in
     record {
+      answer = ap (λ (z : Says PerformanceSnapshot × Session). z .0) e;
       number = code-by _ _ ∙ ap (λ (z : Says PerformanceSnapshot × Session). code (z .0)) e;
       state = ap (λ (z : Says PerformanceSnapshot × Session). withSession (stateOf x) (z .1)) e;
       output = refl;
     }
 does (hosts.apply y) x w =
     let e = apply-under (x .session) (x .queue) (x .capture) y w in
-    record { number = code-by _ _ ∙ ap (λ (z : Says (Unit {0}) × Session). code (z .0)) e; state = ap (λ (z : Says (Unit {0}) × Session). withSession (stateOf x) (z .1)) e; output = refl }
+    record { answer = ap (λ (z : Says (Unit {0}) × Session). z .0) e; number = code-by _ _ ∙ ap (λ (z : Says (Unit {0}) × Session). code (z .0)) e; state = ap (λ (z : Says (Unit {0}) × Session). withSession (stateOf x) (z .1)) e; output = refl }
 does hosts.metrics x w =
     let e = metrics-under (x .session) (x .queue) (x .capture) w in
     record {
+      answer = ap (λ (z : Says PerformanceMetrics × Session). z .0) e;
       number = code-by _ _ ∙ ap (λ (z : Says PerformanceMetrics × Session). code (z .0)) e;
       state = ap (λ (z : Says PerformanceMetrics × Session). withSession (stateOf x) (z .1)) e;
       output = refl;
@@ -239,17 +247,19 @@ unmoved k x e =
 
 -- ---- opening
 
-open-does : (o : Opening) → (hostOpened o .0 ≡ opened o .0) × (stateOf (hostOpened o .1) ≡ opened o .1)
+open-does : (o : Opening) → OpensAsCall o
 open-does o =
-    let e = open-under (o .settings) (o .queue) (o .capture) (o .pool) (o .samples) (o .rate) (o .extent) in (
-      code-by _ _ ∙ ap (λ (z : (Says Handle × Session) × List Float). code (z .0 .0)) e,
-      ap (λ (z : (Says Handle × Session) × List Float). state (z .0 .1) (o .queue) (o .capture) (z .1)) e,
-    )
+    let e = open-under (o .settings) (o .queue) (o .capture) (o .pool) (o .samples) (o .rate) (o .extent) in
+    record {
+      answer = ap (λ (z : (Says Handle × Session) × List Float). z .0 .0) e;
+      number = code-by _ _ ∙ ap (λ (z : (Says Handle × Session) × List Float). code (z .0 .0)) e;
+      state = ap (λ (z : (Says Handle × Session) × List Float). state (z .0 .1) (o .queue) (o .capture) (z .1)) e;
+    }
 
 -- ---- all of it
 
 host-reached : (x : HostState) → HostReached x → Reached (stateOf x)
-host-reached x (hosts.atOpening o e) = subst Reached (sym (open-does o .1)) (atOpening o (sym (open-does o .0) ∙ e))
+host-reached x (hosts.atOpening o e) = subst Reached (sym (open-does o .state)) (atOpening o (sym (open-does o .number) ∙ e))
 host-reached x (hosts.afterCall {x = y} k g r) = go (two-ways (named k)) (host-reached y r)
   where
     go : (named k ≡ true) ⊎ (named k ≡ false) → Reached (stateOf y) → Reached (stateOf (hostAfter k y))
@@ -263,6 +273,7 @@ pub for-hosts : ForHosts
 for-hosts =
     record {
       reached = host-reached;
+      opening = open-does;
       calling = λ k x r e. does k x (weighed-fine (x .session) (x .queue) (x .capture) (named k) (reached-names x r) e);
       unnamed = λ k x r e. without-case k x (reached-names x r) (reached-good (stateOf x) (host-reached x r)) e;
     }
@@ -274,5 +285,5 @@ host-refused =
       state = after-refused;
       output = λ x out n. ap (λ (z : HostAnswered × List Float). z .1) (block-stays (x .session) (x .queue) (x .capture) (x .pool) out n);
       list = λ x list n. ap (λ (z : HostStopped × List ℕ). z .1) (stop-stays (x .session) (x .queue) (x .capture) list n);
-      opening = λ o n. (refl, refl, ap (λ (x : State). x .pool) (open-does o .1) ∙ refused .opening o (λ (z : opened o .0 ≡ 0). n (open-does o .0 ∙ z)) .2);
+      opening = λ o n. (refl, refl, ap (λ (x : State). x .pool) (open-does o .state) ∙ refused .opening o (λ (z : opened o .0 ≡ 0). n (open-does o .number ∙ z)) .2);
     }

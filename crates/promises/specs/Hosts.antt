@@ -8,16 +8,30 @@ use Prim.Native.Nat.{ℕ}
 use lib.Ieee.{Float}
 use Rattle.counts.specs.declared.SongFrame.{SongFrame}
 use Rattle.counts.specs.declared.Handle.{Handle}
+use Rattle.session.specs.Answer.{says}
+use Rattle.clips.specs.Answer.{saysLoad}
+use Rattle.clips.specs.Open.{openOf}
+use Rattle.clips.specs.Load.{loadOf}
+use Rattle.clips.specs.Retire.{retireOf}
+use Rattle.submission.specs.Answer.{saysSubmit, saysReplay}
+use Rattle.submission.specs.Submit.{submitOf}
+use Rattle.submission.specs.Transition.{transitionOf}
+use Rattle.submission.specs.Replay.{replayOf}
+use Rattle.block.specs.Block.{blockOf}
+use Rattle.control.specs.Answer.{saysStop, saysSnapshot, saysMetrics}
+use Rattle.control.specs.Capture.{startCaptureOf, stopCaptureOf}
+use Rattle.control.specs.Snapshot as control
+use Rattle.control.specs.Metrics.{metricsOf}
 use Rattle.host.specs.declared.HostSession.{HostSession}
 use Rattle.host.specs.declared.HostCommand.{HostCommand}
 use Rattle.host.specs.declared.HostAt.{HostAt}
 use Rattle.host.specs.declared.HostSnapshot.{HostSnapshot}
 use Rattle.host.specs.Kept.{isKind, kindOf, sessionOf}
 use Rattle.host.specs.Arguments.{isSubmission, submissionOf, isAt, atOf, isSnapshot, snapshotOf}
-use Rattle.host.specs.Answers.{turned}
+use Rattle.host.specs.Answers.{saysBy, turned}
 use Rattle.host.specs.Calls.{openHost, loadHost, retireHost, submitHost, transitionHost, replayHost, blockHost, startCaptureHost, stopCaptureHost, snapshotHost, applyHost, metricsHost}
 use Rattle.promises.specs.Calls as calls
-use Rattle.promises.specs.Calls.{State, Call, state, refusal, after, heard, Opening, Given, Reached}
+use Rattle.promises.specs.Calls.{State, Call, state, refusal, after, heard, Opening, opened, Given, Reached}
 
 -- a host's session with its stores as the call before left them
 pub record HostState : Type 0 where
@@ -157,15 +171,58 @@ pub data HostReached : HostState → Type 0 where
   atOpening : (o : Opening) → hostOpened o .0 ≡ 0 → HostReached (hostOpened o .1)
   afterCall : {x : HostState} (k : HostCall) → Given (callOf k) → HostReached x → HostReached (hostAfter k x)
 
+-- what a host reads of it is what its call says: the refusal, or what the call gives, and a stop's list
+abbrev pub SameAnswer : HostCall → HostState → Type 0
+SameAnswer (load samples kind extent rate) x =
+    let o = loadHost (x .session) (x .queue) (x .capture) (x .pool) samples kind extent rate in
+    saysBy (o .0 .refusal) (o .0 .handle) ≡ saysLoad (loadOf (sessionOf (x .session)) (x .queue) (x .capture) (x .pool) samples (kindOf kind extent) rate .0 .answer)
+SameAnswer (retire h) x =
+    saysBy (retireHost (x .session) (x .queue) (x .capture) h .refusal) tt ≡ says (retireOf (sessionOf (x .session)) (x .queue) (x .capture) h .answer)
+SameAnswer (submit y at) x =
+    let o = submitHost (x .session) (x .queue) (x .capture) y at in
+    saysBy (o .0 .refusal) (o .0 .number) ≡ saysSubmit (submitOf (sessionOf (x .session)) (x .queue) (x .capture) (submissionOf y) (atOf at) .0 .answer)
+SameAnswer (transition f at) x =
+    let o = transitionHost (x .session) (x .queue) (x .capture) f at in
+    saysBy (o .0 .refusal) (o .0 .number) ≡ saysSubmit (transitionOf (sessionOf (x .session)) (x .queue) (x .capture) f (atOf at) .0 .answer)
+SameAnswer (block out) x =
+    saysBy (blockHost (x .session) (x .queue) (x .capture) (x .pool) out .0 .refusal) tt ≡ says (blockOf (sessionOf (x .session)) (x .queue) (x .capture) (x .pool) out .0 .answer)
+SameAnswer startCapture x =
+    saysBy (startCaptureHost (x .session) (x .queue) (x .capture) .refusal) tt ≡ says (startCaptureOf (sessionOf (x .session)) (x .queue) (x .capture) .answer)
+SameAnswer (stopCapture list) x =
+    let o = stopCaptureHost (x .session) (x .queue) (x .capture) list in
+    let r = stopCaptureOf (sessionOf (x .session)) (x .queue) (x .capture) list in
+    (saysBy (o .0 .refusal) (o .0 .copied) ≡ saysStop (r .0 .answer)) × (o .1 ≡ r .1)
+SameAnswer (replay list) x =
+    let o = replayHost (x .session) (x .queue) (x .capture) list in
+    saysBy (o .0 .refusal) (o .0 .report) ≡ saysReplay (replayOf (sessionOf (x .session)) (x .queue) (x .capture) list .0 .answer)
+SameAnswer snapshot x =
+    let o = snapshotHost (x .session) (x .queue) (x .capture) in
+    saysBy (o .refusal) (snapshotOf (o .snapshot)) ≡ saysSnapshot (control.snapshotOf (sessionOf (x .session)) (x .queue) (x .capture) .answer)
+SameAnswer (apply y) x =
+    saysBy (applyHost (x .session) (x .queue) (x .capture) y .refusal) tt ≡ says (control.applyOf (sessionOf (x .session)) (x .queue) (x .capture) (snapshotOf y) .answer)
+SameAnswer metrics x =
+    let o = metricsHost (x .session) (x .queue) (x .capture) in
+    saysBy (o .refusal) (o .metrics) ≡ saysMetrics (metricsOf (sessionOf (x .session)) (x .queue) (x .capture) .answer)
+
 -- it says what its call says, and leaves and sounds what the call does
 pub record DoesItsCall (k : HostCall) (x : HostState) : Type 0 where
+  pub answer : SameAnswer k x
   pub number : hostRefusal k x ≡ refusal (callOf k) (stateOf x)
   pub state : stateOf (hostAfter k x) ≡ after (callOf k) (stateOf x)
   pub output : hostHeard k x ≡ heard (callOf k) (stateOf x)
 
+-- an exported opening too
+pub record OpensAsCall (o : Opening) : Type 0 where
+  pub answer : let r = openHost (o .settings) (o .queue) (o .capture) (o .pool) (o .samples) (o .rate) (o .extent) in
+      saysBy (r .0 .refusal) (r .0 .handle) ≡ saysLoad (openOf (o .settings) (o .queue) (o .capture) (o .pool) (o .samples) (o .rate) (o .extent) .0 .answer)
+  pub number : hostOpened o .0 ≡ opened o .0
+  pub state : stateOf (hostOpened o .1) ≡ opened o .1
+
 pub record ForHosts : Type 0 where
   -- what a host has reached stands for a reached state, so that all that is promised of those holds for it
   pub reached : (x : HostState) → HostReached x → Reached (stateOf x)
+  -- opening is the call,
+  pub opening : (o : Opening) → OpensAsCall o
   -- there each exported function does its call, where it names cases,
   pub calling : (k : HostCall) (x : HostState) → HostReached x → named k ≡ true → DoesItsCall k x
   -- and else answers 255
