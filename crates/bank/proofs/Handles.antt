@@ -70,15 +70,17 @@ module _ (b : Bank) (h : Handle) where
   unfolding spent
   spent-stale e = not-true (live b h) (and-r (within 1 (b .last) (h .serial)) (not (live b h)) e)
 
-  spent-first : spent b h ≡ true → 1 ≤ h .serial
+  -- its serial was given,
+  pub spent-first : spent b h ≡ true → 1 ≤ h .serial
   unfolding spent
   spent-first e = within-low 1 (b .last) (h .serial) (and-l (within 1 (b .last) (h .serial)) (not (live b h)) e)
 
-  spent-given : spent b h ≡ true → h .serial ≤ b .last
+  pub spent-given : spent b h ≡ true → h .serial ≤ b .last
   unfolding spent
   spent-given e = within-high 1 (b .last) (h .serial) (and-l (within 1 (b .last) (h .serial)) (not (live b h)) e)
 
-  spent-is : 1 ≤ h .serial → h .serial ≤ b .last → live b h ≡ false → spent b h ≡ true
+  -- and such a one is spent
+  pub spent-is : 1 ≤ h .serial → h .serial ≤ b .last → live b h ≡ false → spent b h ≡ true
   unfolding spent
   spent-is l m e = and-true (within-is 1 (b .last) (h .serial) l m) (not-false e)
 

@@ -8,9 +8,7 @@ use native.Mathlib.Omega.{arith}
 use lib.ListN.{length}
 use lib.Ieee.{Float}
 use Rattle.counts.specs.declared.Handle.{Handle}
-use Rattle.counts.specs.Below.{within}
-use Rattle.counts.proofs.Truth.{two-ways, never, and-true, and-l, and-r, not-true, not-false}
-use Rattle.counts.proofs.Below.{within-is, within-low, within-high}
+use Rattle.counts.proofs.Truth.{two-ways, never}
 use Rattle.bank.specs.declared.Bank.{Bank}
 use Rattle.bank.specs.declared.Clip.{Clip}
 use Rattle.bank.specs.Sample.{isPool}
@@ -18,7 +16,7 @@ use Rattle.bank.specs.Slots.{clipOf, live, spent, loadedIn, retiredFrom}
 use Rattle.bank.specs.Room.{pasted}
 use Rattle.bank.specs.Recording.{viewOf}
 use Rattle.bank.proofs.Kept.{Placed}
-use Rattle.bank.proofs.Handles.{load-keeps-clip, load-keeps-spent, retire-keeps-spent, retire-clip}
+use Rattle.bank.proofs.Handles.{spent-stale, spent-is, load-keeps-clip, load-keeps-spent, retire-keeps-spent, retire-clip}
 use Rattle.bank.proofs.Pool.{load-view, retire-view}
 use Rattle.stage.specs.declared.Settings.{Settings}
 use Rattle.stage.specs.declared.Stage.{Stage}
@@ -72,16 +70,6 @@ changes metrics x g = none (ap (λ (s : Session). s .bank) (metrics-leave (x .se
 
 -- ---- spent: given, and live no more
 
-pub spent-is : (b : Bank) (h : Handle) → 1 ≤ h .serial → h .serial ≤ b .last → live b h ≡ false → spent b h ≡ true
-unfolding spent
-spent-is b h l m e = and-true (within-is 1 (b .last) (h .serial) l m) (not-false e)
-
-pub spent-has : (b : Bank) (h : Handle) → spent b h ≡ true → (1 ≤ h .serial) × (h .serial ≤ b .last) × (live b h ≡ false)
-unfolding spent
-spent-has b h e =
-    let g = and-l (within 1 (b .last) (h .serial)) (not (live b h)) e in
-    (within-low 1 (b .last) (h .serial) g, within-high 1 (b .last) (h .serial) g, not-true (live b h) (and-r (within 1 (b .last) (h .serial)) (not (live b h)) e))
-
 module _ (x y : State) where
   -- it stays so,
   pub spent-stays : Changes x y → (h : Handle) → spent (x .session .bank) h ≡ true → spent (y .session .bank) h ≡ true
@@ -104,7 +92,7 @@ module _ (x y : State) where
       where
         go : (live (x .session .bank) h ≡ true) ⊎ (live (x .session .bank) h ≡ false) → live (x .session .bank) h ≡ true
         go (inl l) = l
-        go (inr l) = absurd (never (sym e ∙ spent-has (y .session .bank) h (spent-stays d h (spent-is (x .session .bank) h one given l)) .2))
+        go (inr l) = absurd (never (sym e ∙ spent-stale (y .session .bank) h (spent-stays d h (spent-is (x .session .bank) h one given l))))
 
   -- and what was live stands for the clip that it stood for
   module _ (g : isPool (x .pool) (x .session .settings .pool) ≡ true) (h : Handle) (l : live (x .session .bank) h ≡ true) where

@@ -1,4 +1,4 @@
--- A call that is not refused weighs Fine; one that is leaves what its refusal leaves. Assumes nothing.
+-- A call that is not refused weighs Fine. Assumes nothing.
 use mathlib.Core.Path.{_≡_, refl}
 use mathlib.Core.List.{List}
 use Prim.Native.Nat.{ℕ, _≤_}

@@ -2,8 +2,7 @@
 use mathlib.Core.Path.{_≡_, refl, ap}
 use mathlib.Core.Bool.{true}
 use mathlib.Core.List.{List}
-use Prim.Native.Nat.{ℕ, _≤_}
-use native.Mathlib.Omega.{arith}
+use Prim.Native.Nat.{ℕ}
 use lib.Ieee.{Float}
 use Rattle.counts.specs.declared.Handle.{Handle}
 use Rattle.bank.specs.declared.Bank.{Bank}
@@ -11,13 +10,11 @@ use Rattle.bank.specs.Sample.{framesOf, isPool}
 use Rattle.stage.specs.declared.Settings.{Settings}
 use Rattle.stage.specs.declared.Stage.{Stage}
 use Rattle.session.specs.declared.Session.{Session}
-use Rattle.session.specs.declared.Refusal.{Refusal}
 use Rattle.session.specs.declared.Weighed.{Weighed}
 use Rattle.session.specs.declared.Answered.{Answered}
-use Rattle.session.specs.Refusal.{numberOf}
 use Rattle.session.specs.WellFormed.{wellFormed}
 use Rattle.session.proofs.Typed.{Typed}
-use Rattle.session.proofs.Refuse.{number-some, refused-or-done, unless-both}
+use Rattle.session.proofs.Refuse.{unless-both}
 use Rattle.block.specs.Block.{blockOf}
 use Rattle.block.proofs.Weigh.{accepted}
 use Rattle.block.proofs.Kept.{block-came, call-keeps}
@@ -33,6 +30,7 @@ use Rattle.control.specs.Snapshot.{applyOf}
 use Rattle.control.proofs.Kept.{start-kept, stop-kept, snapshot-leaves, metrics-leave, apply-kept, apply-typed}
 use Rattle.promises.specs.Calls.{State, Call, load, retire, submit, transition, block, startCapture, stopCapture, replay, snapshot, apply, metrics, code, after, Opening, opened, atOpening, afterCall}
 use Rattle.promises.specs.Kept.{Good, Keeps, ReachedGood}
+use Rattle.promises.proofs.Fine.{zero-fine}
 use Rattle.promises.proofs.Leaves.{heart, submit-leaves, transition-leaves, replay-leaves, start-leaves, stop-leaves}
 
 -- a good state of its three parts, and the types again
@@ -103,13 +101,7 @@ keeps metrics x g p = rw (metrics-leave (x .session) (x .queue) (x .capture)) p
 -- an opening that is not refused weighs Fine
 pub open-fine : (o : Opening) → opened o .0 ≡ 0 → weighOpen (o .settings) (o .queue) (o .capture) (o .pool) (o .samples) (o .rate) (o .extent) ≡ Weighed.Fine
 unfolding openOf
-open-fine o =
-    let w : Weighed = weighOpen (o .settings) (o .queue) (o .capture) (o .pool) (o .samples) (o .rate) (o .extent) in
-    refused-or-done {A = LoadAnswered × List Float} w _ _ (λ z. code (saysLoad (z .0 .answer)) ≡ 0 → w ≡ Weighed.Fine)
-    (λ k e z. absurd (none k z)) (λ fine z. fine)
-  where
-    none : (k : Refusal) → numberOf k ≡ 0 → ⊥
-    none k e = let l : 1 ≤ numberOf k = number-some k in omega arith
+open-fine o = zero-fine {A = LoadAnswered × List Float} _ _ _ (λ z. code (saysLoad (z .0 .answer))) (λ k. refl)
 
 -- so each state reached is good
 pub reached-good : ReachedGood

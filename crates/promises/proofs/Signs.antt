@@ -16,8 +16,9 @@ use lib.Ieee.Exact.{round-exact}
 use lib.Ieee.Order.{round-mono}
 use lib.Ieee.Positive.{positive, above, above-of-le, positive-of-value}
 use Rattle.counts.proofs.Truth.{never, is-T, lt-or-le}
-use Rattle.laws.specs.Block.{Machine, At, Ran, stand, still, after, due, executing, framing, drain, one, run, block as blockFrom}
+use Rattle.laws.specs.Block.{Machine, At, block as blockFrom}
 use Rattle.laws.specs.Queue.{Each}
+use Rattle.laws.proofs.Stepwise.{block-stepwise}
 use Rattle.ramp.specs.Ramp.{tickOf}
 use Rattle.bank.specs.Sample.{framesOf}
 use Rattle.bank.specs.Recording.{View, viewOf}
@@ -268,34 +269,14 @@ each-append : {A : Type 0} (P : A → Type 0) (l k : List A) → Each P l → Ea
 each-append P [] k e f = f
 each-append P (a ∷ l) k e f = (e .0, each-append P l k (e .1) f)
 
-module _ {C D A E : Type 0} (m : Machine C D A E) (P : A → Type 0) (made : (c : C) → P (m .makes c)) where
-  drain-made : (c : C) (q : List D) → Each P (drain m c q .made)
-  drain-made c [] = tt
-  drain-made c (d ∷ q) = go (due m d c) (drain-made (m .exec d c) q)
-    where
-      go : (b : Bool) → Each P (drain m (m .exec d c) q .made) → Each P (cond b (after (executing m d c q) (drain m (m .exec d c) q)) (still (stand c (d ∷ q))) .made)
-      go true e = e
-      go false e = tt
-
-  run-made : (n : ℕ) (x : At C D) → Each P (run m n x .made)
-  unfolding run
-  run-made zero x = tt
-  run-made (suc n) x =
-      let y : Ran C D A E = drain m (x .core) (x .queue) in
-      each-append P (y .made) _ (drain-made (x .core) (x .queue)) (made (y .at .core), run-made n (framing m (y .at .core) (y .at .queue) .at))
-
-  one-made : (c : C) (q : List D) → Each P (one m c q .made)
-  one-made c [] = tt
-  one-made c (d ∷ q) = go (due m d c)
-    where
-      go : (b : Bool) → Each P (cond b (executing m d c q) (still (stand c (d ∷ q))) .made)
-      go true = tt
-      go false = tt
-
-  block-made : (n : ℕ) (x : At C D) → Each P (blockFrom m n x .made)
-  unfolding blockFrom
-  block-made zero x = tt
-  block-made (suc n) x = each-append P (run m (suc n) x .made) _ (run-made (suc n) x) (one-made (run m (suc n) x .at .core) (run m (suc n) x .at .queue))
+-- what every frame makes, a block makes alone
+block-made : {C D A E : Type 0} (m : Machine C D A E) (P : A → Type 0) → ((c : C) → P (m .makes c)) → (n : ℕ) (x : At C D) → Each P (blockFrom m n x .made)
+block-made m P made =
+    block-stepwise m (λ x r. Each P (r .made))
+    (record {
+      commands = record { stays = λ x. tt; joins = λ x r s i k. each-append P (r .made) (s .made) i k; executes = λ d c q h. tt };
+      frames = λ c q. (made c, tt);
+    })
 
 output-fine : (l : List Pair) → Each Both l → Each (λ v. minusZero v ≡ false) (outputOf l)
 output-fine [] e = tt

@@ -27,7 +27,7 @@ use Rattle.transport.specs.declared.At.{At}
 use Rattle.bank.specs.declared.Bank.{Bank}
 use Rattle.bank.specs.Slots.{live, spent, standsFor, standsIn, isStale, claimOk}
 use Rattle.bank.specs.Recording.{View, viewOf}
-use Rattle.bank.proofs.Handles.{same-is}
+use Rattle.bank.proofs.Handles.{same-is, spent-first, spent-given, spent-stale, spent-is}
 use Rattle.bank.proofs.Claims.{song-has, stinger-has}
 use Rattle.stage.specs.declared.Settings.{Settings}
 use Rattle.stage.specs.declared.Stage.{Stage}
@@ -61,24 +61,24 @@ use Rattle.promises.specs.Retire.{Live, Stale}
 use Rattle.promises.specs.Stale.{AllGiven, WasGiven, skipped, StaleForGood}
 use Rattle.promises.proofs.Leaves.{replayed-leaves}
 use Rattle.promises.proofs.Fine.{zero-fine}
-use Rattle.promises.proofs.Banked.{spent-is, spent-has, spent-stays, kept-by-all}
+use Rattle.promises.proofs.Banked.{spent-stays, kept-by-all}
 use Rattle.promises.proofs.Retire.{stale-says}
 
 -- ---- it is so, and stays so
+
+as-spent : (h : Handle) (x : State) → spent (x .session .bank) h ≡ true → WasGiven h x × Stale h x
+as-spent h x e = let b : Bank = x .session .bank in ((spent-first b h e, spent-given b h e), spent-stale b h e)
 
 retired : (h : Handle) (x : State) → refusal (retire h) x ≡ 0 → WasGiven h (after (retire h) x) × Stale h (after (retire h) x)
 unfolding retireOf
 retired h x e =
     let fine : weighRetire (x .session) (x .queue) (x .capture) h ≡ Weighed.Fine = zero-fine {A = Answered} _ _ _ (λ z. code (says (z .answer))) (λ k. refl) e in
-    let t = spent-has (after (retire h) x .session .bank) h (retired-spent (x .session) (x .queue) (x .capture) h fine) in
-    ((t .0, t .1), t .2)
+    as-spent h (after (retire h) x) (retired-spent (x .session) (x .queue) (x .capture) h fine)
 
 stays : (h : Handle) (x : State) (ks : List Call) → Good x → AllGiven ks → WasGiven h x → Stale h x → WasGiven h (afterAll ks x) × Stale h (afterAll ks x)
 stays h x ks g a w e =
-    let s : spent (afterAll ks x .session .bank) h ≡ true =
-    kept-by-all (λ y. spent (y .session .bank) h ≡ true) (λ y z good d. spent-stays y z d h) ks x g a (spent-is (x .session .bank) h (w .0) (w .1) e) in
-    let t = spent-has (afterAll ks x .session .bank) h s in
-    ((t .0, t .1), t .2)
+    as-spent h (afterAll ks x)
+    (kept-by-all (λ y. spent (y .session .bank) h ≡ true) (λ y z good d. spent-stays y z d h) ks x g a (spent-is (x .session .bank) h (w .0) (w .1) e))
 
 -- ---- a command that names it
 

@@ -32,7 +32,7 @@ pub data Holds (h : Handle) (x : State) : Type 0 where
   byQueue : (j : ℕ) → j < x .session .queued → claims h (claimOf (readOf (rowAt (x .queue) j))) ≡ true → Holds h x
   byCapture : (j : ℕ) → j < capturedNow (x .session .desk) → claims h (claimOf (readOf (rowAt (x .capture) j))) ≡ true → Holds h x
 
--- whatever is held is live, and a block reads no other handle than those that the stage and the queue hold
+-- whatever is held is live
 abbrev pub HeldLive : Type 0
 HeldLive = (h : Handle) (x : State) → Good x → Holds h x → Live h x
 
