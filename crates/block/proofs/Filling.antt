@@ -36,12 +36,12 @@ use Rattle.block.proofs.Kept.{Standing, framed, executed}
 use Rattle.block.proofs.Steps.{due-some, due-at, queue-some, lead-most, lead-some}
 
 -- a part that was lent comes back: what was written at its front stands behind what stood before it
-part-take : {A : Type 0} (o r d e : List A) (a j : ℕ) → a ≤ length o → length r ≡ j → take (a + j) (take a o ++ ((r ++ d) ++ e)) ≡ take a o ++ r
+pub part-take : {A : Type 0} (o r d e : List A) (a j : ℕ) → a ≤ length o → length r ≡ j → take (a + j) (take a o ++ ((r ++ d) ++ e)) ≡ take a o ++ r
 part-take o r d e a j h l =
     rw (append-assoc r d e, ← append-assoc (take a o) r (d ++ e))
     (take-at (take a o ++ r) (d ++ e) (a + j) (simp (length-append, length-take) (omega arith)))
 
-part-length : {A : Type 0} (o y : List A) (a : ℕ) → a ≤ length o → length y ≡ length o - a
+pub part-length : {A : Type 0} (o y : List A) (a : ℕ) → a ≤ length o → length y ≡ length o - a
     → length (take a o ++ (y ++ drop (length o - a) (drop a o))) ≡ length o
 part-length o y a h e = simp (length-append, length-take, length-drop) (omega arith)
 

@@ -1,19 +1,22 @@
 -- The loop of a stretch: what it keeps, what a turn does with that, and what it ends with. Assumes nothing.
-use mathlib.Core.Path.{_≡_, refl, sym}
+use mathlib.Core.Path.{_≡_, refl, sym, ap, _∙_}
 use mathlib.Core.Bool.{true}
-use mathlib.Core.List.{List, [], _∷_, _++_}
-use Prim.Native.Nat.{ℕ, _+_, _*_, _-_, _^_, _≤_, _<_}
+use mathlib.Core.List.{List, [], _∷_, _++_, append-nil, append-assoc}
+use Prim.Native.Nat.{ℕ, suc, _+_, _*_, _-_, _^_, _≤_, _<_}
 use native.Mathlib.Omega.{arith}
-use lib.ListN.{length, take, drop, set, length-set, take-append-drop}
-use lib.Seq.{drop-set-lt}
+use lib.ListN.{length, take, drop, set, length-set, length-append, length-take, length-drop, take-append-drop, drop-of-length-le}
+use lib.Seq.{drop-set-lt, take-all, drop-drop, drop-append-add}
 use lib.Ieee.{Float}
 use Rattle.laws.specs.Block.{Machine, stand, ran, run}
-use Rattle.laws.proofs.Partway.{Partway, partway-start, partway-frame, partway-ran}
-use Rattle.laws.proofs.Samples.{samples-append, take-two}
+use Rattle.laws.proofs.Stepwise.{run-keeps}
+use Rattle.laws.proofs.Clock.{run-clock, run-length}
+use Rattle.laws.proofs.Partway.{Partway, partway-start, partway-frame, partway-stretch, partway-ran}
+use Rattle.laws.proofs.Samples.{samples-append, samples-length, take-two}
 use Rattle.timeline.specs.declared.QueueRecord.{QueueRecord}
 use Rattle.timeline.specs.Queue as queues
 use Rattle.bank.specs.Sample.{isPool}
-use Rattle.bank.specs.Recording.{viewOf}
+use Rattle.bank.specs.Recording.{View, viewOf}
+use Rattle.bank.proofs.Claims.{song-has, song-length}
 use Rattle.oneshot.specs.declared.Pair.{Pair}
 use Rattle.stage.specs.declared.Stage.{Stage}
 use Rattle.stage.specs.Ready.{FrameReady}
@@ -22,8 +25,25 @@ use Rattle.stage.proofs.Clock.{clocked}
 use Rattle.session.specs.declared.Session.{Session}
 use Rattle.session.specs.Session.{withStage}
 use Rattle.session.proofs.Ready.{frame-ready}
+use Rattle.session.proofs.Parts.{parts}
+use Rattle.passes.specs.Over.{over}
+use Rattle.runs.specs.Run.{stageBy, Calm, outs, pairsOf}
+use Rattle.runs.specs.Parts.{RunReady}
+use Rattle.runs.proofs.Parts.{bank-ends}
+use Rattle.runs.proofs.Runs.{calm-run, outs-output}
+use Rattle.block.proofs.Filling.{part-take, part-length}
 use Rattle.block.specs.Fill.{stretchOf, Stretchable}
 use Rattle.block.proofs.Kept.{Standing, framed}
+
+-- what stands past all that was written is as it was
+part-rest : {A : Type 0} (o r : List A) (a j m : ℕ) → a ≤ length o → length r ≡ j → a + j ≤ m → drop m (take a o ++ ((r ++ drop j (take (length o - a) (drop a o))) ++ drop (length o - a) (drop a o))) ≡ drop m o
+part-rest o r a j m h l b =
+    let e : length (drop a o) ≡ length o - a = length-drop a o in
+    let p : take (length o - a) (drop a o) ≡ drop a o = take-all (length o - a) (drop a o) (omega arith) in
+    let q : drop (length o - a) (drop a o) ≡ [] = drop-of-length-le (drop a o) {i = length o - a} (omega arith) in
+    let f : length (take a o ++ r) ≡ a + j = simp (length-append, length-take) (omega arith) in
+    let g : m ≡ length (take a o ++ r) + (m - (a + j)) = omega arith in
+    rw (p, q, append-nil, drop-drop j a o, ← append-assoc (take a o) r (drop (a + j) o), g, drop-append-add (take a o ++ r) (drop (a + j) o) (m - (a + j)), drop-drop (m - (a + j)) (a + j) o, f) refl
 
 module _ (s : Session) (pool : List Float) where
   abbrev machine : Machine Stage QueueRecord Pair Told
@@ -94,6 +114,66 @@ module _ (s : Session) (pool : List Float) where
                 let z : i * 2 < n * 2 = omega arith in
                 rw (drop-set-lt, drop-set-lt) (h .rest);
           }
+
+      -- the song's position is far below 2^64
+      position-low : x .playhead .transport .position .0 ≤ 2 ^ 40
+      position-low =
+          let y : Session = withStage s x (s .queued) in
+          let p = parts y (h .queue) (h .capture) (h .stands .formed) in
+          let l = song-length (s .bank) (s .settings .pool) (s .settings .rate) (x .playhead .song) (p .bank) (song-has (s .bank) (s .settings .rate) (x .playhead .song) (p .song)) in
+          omega (arith, p .position, l .1)
+
+      run-stands : (j : ℕ) → x .clock .0 + j ≤ 2 ^ 62 → Standing s (h .queue) (h .capture) (s .queued) (stand (run machine j (stand x []) .at .core) (queues.queue (h .queue) (s .queued)))
+      run-stands j l =
+          run-keeps machine (λ y. y .clock .0 ≤ 2 ^ 62 → Standing s (h .queue) (h .capture) (s .queued) (stand y (queues.queue (h .queue) (s .queued))))
+          (λ y p m.
+          let t : suc (y .clock .0) ≤ 2 ^ 62 = omega (arith, clocked (s .settings) (viewOf pool (s .bank)) .ticks y) in
+          framed s (h .queue) (h .capture) pool (s .queued) y (queues.queue (h .queue) (s .queued)) (p (omega arith)) (omega arith))
+          j x (λ m. h .stands) (omega (arith, run-clock machine (clocked (s .settings) (viewOf pool (s .bank))) j (stand x [])))
+
+      module _ (j : ℕ) (most : i + j ≤ n) (calm : Calm (viewOf pool (s .bank)) j x) where
+        -- a run can be made, into the later part of the output
+        pub run-asked : RunReady pool (s .bank) j (length (take (length o - i * 2) (drop (i * 2) o))) x
+        run-asked =
+            record {
+              ready = stretch-ready;
+              calm = calm;
+              room = simp (length-take, length-drop) (omega (arith, h .same, h .room));
+              clock = omega (arith, h .clock);
+              position = omega (arith, position-low, h .clock);
+            }
+
+        -- a turn makes it
+        pub stretch-run : (y : Stage) (ys : List Float) → y ≡ stageBy (viewOf pool (s .bank)) j x
+            → ys ≡ over (outs (viewOf pool (s .bank)) x) 0 (j * 2) (take (length o - i * 2) (drop (i * 2) o))
+            → length ys ≡ length (take (length o - i * 2) (drop (i * 2) o))
+            → Stretching o₀ n (take (i * 2) o ++ (ys ++ drop (length o - i * 2) (drop (i * 2) o))) y (i + j)
+        stretch-run y ys ey eo ly =
+            let view : View = viewOf pool (s .bank) in
+            let r : run machine j (stand x []) ≡ ran (stand (stageBy view j x) []) (pairsOf view x j) [] = calm-run view (bank-ends pool (s .bank)) (s .settings) x j calm in
+            let core : y ≡ run machine j (stand x []) .at .core = ey ∙ sym (ap (λ t. t .at .core) r) in
+            let part : List Float = take (length o - i * 2) (drop (i * 2) o) in
+            let room : j * 2 ≤ length part = simp (length-take, length-drop) (omega (arith, h .same, h .room)) in
+            let out : ys ≡ outputOf (run machine j (stand x []) .made) ++ drop (j * 2) part = eo ∙ outs-output view x part j room ∙ sym (ap (λ t. outputOf (t .made) ++ drop (j * 2) part) r) in
+            let two : (i + j) * 2 ≡ i * 2 + j * 2 = omega arith in
+            let clock = run-clock machine (clocked (s .settings) (viewOf pool (s .bank))) j (stand x []) in
+            let long : length (outputOf (run machine j (stand x []) .made)) ≡ j * 2 = samples-length _ _ (run machine j (stand x []) .made) ∙ ap (λ (m : ℕ). m * 2) (run-length machine j (stand x [])) in
+            rw core
+            (record {
+              queue = h .queue;
+              capture = h .capture;
+              stands = run-stands j (omega (arith, h .clock));
+              lent = h .lent;
+              most = most;
+              same = part-length o ys (i * 2) (omega (arith, h .same, h .room)) (ly ∙ simp (length-take, length-drop) (omega arith)) ∙ h .same;
+              room = h .room;
+              clock = omega (arith, h .clock, clock);
+              made = h .made ++ run machine j (stand x []) .made;
+              told = h .told;
+              partway = partway-stretch machine n (stand (s .stage) []) i x [] (h .made) (h .told) (clocked (s .settings) (viewOf pool (s .bank))) j most tt (h .partway);
+              sound = rw (samples-append _ _ (h .made), h .sound, two, out) (sym (part-take o _ _ _ (i * 2) (j * 2) (omega (arith, h .same, h .room)) long));
+              rest = rw out (part-rest o (outputOf (run machine j (stand x []) .made)) (i * 2) (j * 2) (n * 2) (omega (arith, h .same, h .room)) long (omega arith)) ∙ h .rest;
+            })
 
       -- at its end all are made, into the front of the output
       pub stretch-end : n ≤ i

@@ -1,10 +1,10 @@
--- `block::stretch` meets its contract. Assumes nothing.
+-- `block::by_frame` meets its contract. Assumes nothing.
 use Prim.Native.Nat.{_-_}
 use native.Mathlib.Omega.{arith}
 use lib.ListN.{length-set}
 use Rattle.block.proofs.Stretching.{Stretching, stretch-start, stretch-ready, stretch-turn, stretch-end}
-use Rattle.block.proofs.stretch.Statement.{statement}
-use Rattle.block.proofs.stretch.Tie as tie
+use Rattle.block.proofs.by_frame.Statement.{statement}
+use Rattle.block.proofs.by_frame.Tie as tie
 
 abbrev Inv-loop : tie.InvT-loop
 Inv-loop s pool out₀ frames settings bank stage₀ done₀ out stage done = Stretching s pool out₀ frames out stage done
@@ -52,8 +52,8 @@ same-length c = c .before .loop .inv .same
 returns : tie.Need-returns Inv-loop μ-loop
 returns c = stretch-end _ _ _ _ _ _ _ (c .before .loop .inv) (c .loop-test .left)
 
-pub stretch-spec : {M : Type 1} → statement M
-stretch-spec =
+pub by-frame-spec : {M : Type 1} → statement M
+by-frame-spec =
     tie.close
     (tie.spec
     Inv-loop

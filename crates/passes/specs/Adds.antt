@@ -1,0 +1,46 @@
+-- What the passes of a run make of each place. Definitions only.
+use Prim.Native.Nat.{ℕ, zero, suc, _+_, _/_, _≤_}
+use mathlib.Core.Path.{_≡_}
+use mathlib.Core.Bool.{true, cond}
+use mathlib.Core.List.{List}
+use lib.ListN.{getD}
+use lib.Ieee.{Float, nan, binary32, add, mul}
+use Rattle.ramp.specs.Number.{zero32}
+use Rattle.ramp.specs.declared.Ramp.{Ramp}
+use Rattle.ramp.specs.Ramp.{tickOf}
+use Rattle.oneshot.specs.Heard.{heardOf}
+use Rattle.passes.specs.declared.Part.{Part}
+
+-- the sample of a part at place k of a run, as heard
+unfoldable pub shareOf : List Float → Part → ℕ → Float
+shareOf pool p k = cond (p .on) (heardOf (getD pool (p .at + k) nan)) zero32
+
+-- a part that sounds has m samples in a pool of n
+abbrev pub Reads : ℕ → Part → ℕ → Type 0
+Reads n p m = p .on ≡ true → p .at + m ≤ n
+
+-- n ticks of a ramp
+unfoldable pub ticksOf : ℕ → Ramp → Ramp
+ticksOf zero r = r
+ticksOf (suc n) r = tickOf (ticksOf n r) .ramp
+
+-- the value in the frame after n others
+abbrev pub gainAt : Ramp → ℕ → Float
+gainAt r n = tickOf (ticksOf n r) .value
+
+-- +0.0
+abbrev pub cleared : ℕ → Float → Float
+cleared k x = zero32
+
+-- what stands there plus the part × a gain
+abbrev pub stillAdds : List Float → Part → Float → ℕ → Float → Float
+stillAdds pool p g k x = add binary32 x (mul binary32 (shareOf pool p k) g)
+
+-- what stands there plus the part × the ramp's value in the place's frame
+abbrev pub adds : List Float → Part → Ramp → ℕ → Float → Float
+adds pool p r k x = add binary32 x (mul binary32 (shareOf pool p k) (gainAt r (k / 2)))
+
+-- the song × the master, plus the tail × its weight, and that before what stands there
+abbrev pub bothAdds : List Float → Part → Part → Ramp → Ramp → ℕ → Float → Float
+bothAdds pool s t g w k x =
+    add binary32 (add binary32 (mul binary32 (shareOf pool s k) (gainAt g (k / 2))) (mul binary32 (shareOf pool t k) (gainAt w (k / 2)))) x

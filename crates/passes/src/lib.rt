@@ -1,0 +1,143 @@
+//! Passes over an output: the loops of a run, in which nothing is decided anew.
+ghost use mathlib.Core.Path.{_≡_};
+ghost use mathlib.Core.Bool.{true};
+ghost use Prim.Native.Nat.{_+_, _-_, _*_, _≤_, _<_, min};
+ghost use lib.ListN.{length};
+ghost use Rattle.ramp.specs.Number.{zero32};
+ghost use Rattle.passes.specs.Over.{over};
+ghost use Rattle.passes.specs.Adds.{shareOf, ticksOf, stillAdds, adds, bothAdds, cleared, Reads};
+use ramp::Ramp;
+
+/// Where in the pool a run's samples stand, or that it is silent.
+pub struct Part {
+    pub on: bool,
+    pub at: usize,
+}
+
+/// The sample of a part at a place of the run, as heard.
+pub fn share(pool: &[f32], part: Part, k: usize) -> f32
+    requires { ⌜ Reads (length (now pool)) part (k + 1) ⌝ }
+    ensures { λ r. ⌜ r ≡ shareOf (now (pool .entry)) part k ⌝ }
+{
+    if part.on {
+        let at = part.at + k;
+        return oneshot::heard(pool[at]);
+    }
+    0.0
+}
+
+/// The places below `to` become +0.0.
+pub fn clear(out: &mut [f32], to: usize)
+    requires { ⌜ to ≤ length (now out) ⌝ }
+    ensures { λ r. ⌜ now (out .exit) ≡ over cleared 0 to (now (out .entry)) ⌝ }
+{
+    let mut k: usize = 0;
+    while k < to {
+        out[k] = 0.0;
+        k += 1;
+    }
+}
+
+/// A part × a gain that stands still is added, from a place to a place.
+pub fn add_still(pool: &[f32], part: Part, out: &mut [f32], from: usize, to: usize, gain: f32)
+    requires { ⌜ (from ≤ to) × (to ≤ length (now out)) × Reads (length (now pool)) part to ⌝ }
+    ensures { λ r. ⌜ now (out .exit) ≡ over (stillAdds (now (pool .entry)) part gain) from (to - from) (now (out .entry)) ⌝ }
+{
+    let mut k = from;
+    while k < to {
+        let x = share(pool, part, k);
+        out[k] = out[k] + x * gain;
+        k += 1;
+    }
+}
+
+/// A part × a ramp is added to so many frames. The ramp that they leave.
+pub fn add_moving(pool: &[f32], part: Part, out: &mut [f32], frames: usize, ramp: Ramp) -> Ramp
+    requires { ⌜ (frames * 2 ≤ length (now out)) × Reads (length (now pool)) part (frames * 2) ⌝ }
+    ensures { λ r. ⌜ (r ≡ ticksOf frames ramp) × (now (out .exit) ≡ over (adds (now (pool .entry)) part ramp) 0 (frames * 2) (now (out .entry))) ⌝ }
+{
+    let mut r = ramp;
+    let mut j: usize = 0;
+    while j < frames {
+        let t = r.tick();
+        let g = t.value;
+        let k = j * 2;
+        let x = share(pool, part, k);
+        let n = k + 1;
+        let y = share(pool, part, n);
+        out[k] = out[k] + x * g;
+        out[n] = out[n] + y * g;
+        r = t.ramp;
+        j += 1;
+    }
+    r
+}
+
+/// Of so many frames those in which a ramp moves.
+pub fn moves(ramp: Ramp, frames: usize) -> usize
+    ensures { λ r. ⌜ r ≡ min (ramp .remaining) frames ⌝ }
+{
+    let left = ramp.remaining as usize;
+    if left < frames {
+        return left;
+    }
+    frames
+}
+
+/// A part × a ramp is added to so many frames: first where it moves, then where it stands still. The ramp that they leave.
+pub fn add_part(pool: &[f32], part: Part, out: &mut [f32], frames: usize, ramp: Ramp) -> Ramp
+    requires { ⌜ (frames * 2 ≤ length (now out)) × Reads (length (now pool)) part (frames * 2) ⌝ }
+    ensures { λ r. ⌜ (r ≡ ticksOf frames ramp) × (now (out .exit) ≡ over (adds (now (pool .entry)) part ramp) 0 (frames * 2) (now (out .entry))) ⌝ }
+{
+    let moving = moves(ramp, frames);
+    let r = add_moving(pool, part, &mut out[..], moving, ramp);
+    let from = moving * 2;
+    let to = frames * 2;
+    add_still(pool, part, &mut out[..], from, to, r.value);
+    r
+}
+
+/// The master and the tail's weight.
+pub struct Gains {
+    pub master: Ramp,
+    pub weight: Ramp,
+}
+
+/// In so many frames the song × the master, plus the tail × its weight, and that before what stands there. The ramps that they leave.
+pub fn add_both(
+    pool: &[f32],
+    song: Part,
+    tail: Part,
+    out: &mut [f32],
+    frames: usize,
+    master: Ramp,
+    weight: Ramp,
+) -> Gains
+    requires { ⌜ (frames * 2 ≤ length (now out)) × Reads (length (now pool)) song (frames * 2) × Reads (length (now pool)) tail (frames * 2) ⌝ }
+    ensures { λ r. ⌜ (r .master ≡ ticksOf frames master) × (r .weight ≡ ticksOf frames weight) × (now (out .exit) ≡ over (bothAdds (now (pool .entry)) song tail master weight) 0 (frames * 2) (now (out .entry))) ⌝ }
+{
+    let mut g = master;
+    let mut w = weight;
+    let mut j: usize = 0;
+    while j < frames {
+        let tg = g.tick();
+        let tw = w.tick();
+        let a = tg.value;
+        let b = tw.value;
+        let k = j * 2;
+        let n = k + 1;
+        let x = share(pool, song, k);
+        let y = share(pool, tail, k);
+        let z = share(pool, song, n);
+        let v = share(pool, tail, n);
+        out[k] = (x * a + y * b) + out[k];
+        out[n] = (z * a + v * b) + out[n];
+        g = tg.ramp;
+        w = tw.ramp;
+        j += 1;
+    }
+    Gains {
+        master: g,
+        weight: w,
+    }
+}

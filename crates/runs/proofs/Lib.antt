@@ -1,0 +1,11 @@
+pub mod Voices
+pub mod Song
+pub mod Tail
+pub mod Frames
+pub mod Runs
+pub mod Sums
+pub mod Table
+pub mod Looking
+pub mod Parts
+pub mod Running
+pub mod Fewer

@@ -1,0 +1,73 @@
+-- A frame of the song in the middle of a run: rules a and b decide as before. Assumes nothing.
+use mathlib.Core.Path.{_≡_, refl, sym, ap, _∙_}
+use mathlib.Core.Bool.{Bool, true, false, cond}
+use Prim.Native.Nat.{ℕ, _+_, _*_, _≤_, _<_}
+use native.Mathlib.Omega.{arith}
+use lib.Dec.{leb, ltb}
+use lib.Ieee.{Float}
+use borrow.Author.Tests.{ltb-true, ltb-false, lt-ltb, lt-leb}
+use Rattle.ramp.specs.Number.{zero32}
+use Rattle.counts.specs.declared.SongFrame.{SongFrame}
+use Rattle.transport.specs.declared.TransportState.{TransportState}
+use Rattle.transport.specs.declared.LoopRange.{LoopRange}
+use Rattle.transport.specs.declared.Transport.{Transport}
+use Rattle.transport.specs.declared.Stepped.{Stepped}
+use Rattle.transport.specs.Transport.{isPlaying, transport, wrapOf, cursorOn, advanceOf, stepOf}
+use Rattle.bank.specs.Recording.{Recording}
+use Rattle.oneshot.specs.Heard.{sampleAt}
+use Rattle.runs.specs.Run.{cursorBy, transportBy, Inside, Steady, clipShare}
+
+-- a cursor goes on by one
+pub cursor-frame : (frames c n j : ℕ) → Inside frames c n → j < n → cursorOn frames (cursorBy frames c j) ≡ cursorBy frames c (j + 1)
+unfolding cursorOn
+cursor-frame frames c n j h l = go (ltb c frames) refl
+  where
+    go : (b : Bool) → ltb c frames ≡ b → cond (ltb (cond b (c + j) c) frames) (cond b (c + j) c + 1) (cond b (c + j) c) ≡ cond b (c + (j + 1)) c
+    go true e =
+        let i : c + n ≤ frames = h (ltb-true c frames e) in
+        let q : ltb (c + j) frames ≡ true = lt-ltb (c + j) frames (omega arith) in
+        let r : c + j + 1 ≡ c + (j + 1) = omega arith in
+        rw (q, r) refl
+    go false e = rw e refl
+
+-- what it reads there is the clip's share
+pub cursor-reads : (x : Recording) → ((k : ℕ) → x .frames * 2 ≤ k → sampleAt x k ≡ zero32) → (c j i : ℕ) → sampleAt x (cursorBy (x .frames) c j * 2 + i) ≡ clipShare x c (j * 2 + i)
+cursor-reads x ends c j i = go (ltb c (x .frames)) refl
+  where
+    go : (b : Bool) → ltb c (x .frames) ≡ b → sampleAt x (cond b (c + j) c * 2 + i) ≡ cond b (sampleAt x (c * 2 + (j * 2 + i))) zero32
+    go true e = let q : (c + j) * 2 + i ≡ c * 2 + (j * 2 + i) = omega arith in ap (sampleAt x) q
+    go false e = let q : x .frames ≤ c = ltb-false c (x .frames) e in ends (c * 2 + i) (omega arith)
+
+pub cursor-left : (x : Recording) → ((k : ℕ) → x .frames * 2 ≤ k → sampleAt x k ≡ zero32) → (c j : ℕ) → sampleAt x (cursorBy (x .frames) c j * 2) ≡ clipShare x c (j * 2)
+cursor-left x ends c j =
+    let a : cursorBy (x .frames) c j * 2 + 0 ≡ cursorBy (x .frames) c j * 2 = omega arith in
+    let b : j * 2 + 0 ≡ j * 2 = omega arith in
+    sym (ap (sampleAt x) a) ∙ cursor-reads x ends c j 0 ∙ ap (clipShare x c) b
+
+-- where the song is read: at the cursor so many frames on, and at the cursor itself if it does not play
+abbrev pub readAt : ℕ → ℕ → Transport → SongFrame
+readAt frames j t = cond (isPlaying (t .state)) (record { 0 = cursorBy frames (t .cursor .0) j }) (t .cursor)
+
+abbrev stepped : ℕ → ℕ → Transport → Stepped
+stepped frames j t = record { transport = transportBy frames (j + 1) t; playing = isPlaying (t .state); cursor = readAt frames j t }
+
+-- the transport's step
+step-parts : (st : TransportState) (p c : ℕ) (l : LoopRange) (frames extent n j : ℕ) → Steady frames extent n (transport st p c l) → j < n
+    → stepOf frames extent (transportBy frames j (transport st p c l)) ≡ stepped frames j (transport st p c l)
+unfolding stepOf wrapOf advanceOf
+step-parts TransportState.Stopped p c l frames extent n j h lt = refl
+step-parts TransportState.Paused p c l frames extent n j h lt = refl
+step-parts TransportState.Playing p c LoopRange.Off frames extent n j h lt =
+    let a : p + n < extent = h .end refl in
+    let q : leb extent (p + j + 1) ≡ false = lt-leb extent (p + j + 1) (omega arith) in
+    let r : p + j + 1 ≡ p + (j + 1) = omega arith in
+    rw (q, r, cursor-frame frames c n j (h .inside refl) lt) refl
+step-parts TransportState.Playing p c (LoopRange.Range s e) frames extent n j h lt =
+    let a : p + n < e .0 = h .end refl in
+    let o : leb (e .0) (p + j) ≡ false = lt-leb (e .0) (p + j) (omega arith) in
+    let q : leb (e .0) (p + j + 1) ≡ false = lt-leb (e .0) (p + j + 1) (omega arith) in
+    let r : p + j + 1 ≡ p + (j + 1) = omega arith in
+    rw (o, q, r, cursor-frame frames c n j (h .inside refl) lt) refl
+
+pub step-frame : (t : Transport) (frames extent n j : ℕ) → Steady frames extent n t → j < n → stepOf frames extent (transportBy frames j t) ≡ stepped frames j t
+step-frame t frames extent n j h lt = step-parts (t .state) (t .position .0) (t .cursor .0) (t .looped) frames extent n j h lt

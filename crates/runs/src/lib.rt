@@ -1,0 +1,364 @@
+//! Runs of frames: as many as there are in which nothing is decided anew.
+ghost use mathlib.Core.Path.{_≡_};
+ghost use Prim.Native.Nat.{_+_, _*_, _≤_, _<_};
+ghost use lib.ListN.{length};
+ghost use mathlib.Core.Bool.{true};
+ghost use Rattle.transport.specs.Transport.{isPlaying};
+ghost use Rattle.stage.specs.Ready.{FrameReady};
+ghost use Rattle.bank.specs.Recording.{recordingOf, viewOf};
+ghost use Rattle.oneshot.specs.Mix.{sounding};
+ghost use Rattle.oneshot.specs.Sounding.{LiesIn, Each, Ready};
+ghost use Rattle.passes.specs.Over.{over};
+ghost use Rattle.passes.specs.Adds.{ticksOf};
+ghost use Rattle.runs.specs.Voices.{voiceBy, voicesBy, Lasts, voiceAdds, sums};
+ghost use Rattle.runs.specs.Run.{cursorBy, transportBy, stageBy, endOf, Inside, Steady, Calm, outs};
+ghost use Rattle.runs.specs.Parts.{partOf, songPart, slotOf, tailIn, overAdds, OverReady, RunReady, FadingIn};
+use bank::Bank;
+use bank::Clip;
+use counts::ClockFrame;
+use counts::Handle;
+use counts::SamplePlace;
+use counts::SongFrame;
+use oneshot::Voice;
+use oneshot::Voices;
+use passes::Part;
+use ramp::Ramp;
+use stage::Fade;
+use stage::Playhead;
+use stage::Sound;
+use stage::Stage;
+use stage::Tail;
+use transport::LoopRange;
+use transport::Transport;
+
+/// So many frames of a voice whose clip has more: each adds its share.
+pub fn voice_on(v: Voice, pool: &[f32], clip: Clip, out: &mut [f32], frames: usize) -> Voice
+    requires { ⌜ LiesIn (length (now pool)) clip × (v .head .0 + frames * 2 < clip .frames * 2) × (frames * 2 ≤ length (now out)) ⌝ }
+    ensures { λ r. ⌜ (r ≡ voiceBy frames v) × (now (out .exit) ≡ over (voiceAdds (recordingOf (now (pool .entry)) clip) v) 0 (frames * 2) (now (out .entry))) ⌝ }
+{
+    let handle = v.handle;
+    let head = v.head.0;
+    let start = (clip.start * 2) as usize;
+    let at = start + head;
+    let part = Part { on: true, at: at };
+    let ramp = v.gain;
+    let gain = passes::add_part(pool, part, out, frames, ramp);
+    let next = head + frames * 2;
+    Voice {
+        handle: handle,
+        head: SamplePlace(next),
+        gain: gain,
+    }
+}
+
+/// The frames of a voice before its last one.
+pub fn voice_ahead(v: Voice, clip: Clip) -> usize
+    requires { ⌜ (v .head .0 + 1 < clip .frames * 2) × (clip .frames * 2 < 9223372036854775808) ⌝ }
+    ensures { λ r. ⌜ v .head .0 + r * 2 < clip .frames * 2 ⌝ }
+{
+    let samples = (clip.frames * 2) as usize;
+    let left = (samples - v.head.0) / 2;
+    left - 1
+}
+
+/// At most so many frames, before any voice's last one.
+pub fn voices_ahead(voices: Voices, pool: &[f32], bank: Bank, most: usize) -> usize
+    requires { ⌜ Ready (length (now pool)) bank voices ⌝ }
+    ensures { λ r. ⌜ (r ≤ most) × Each (Lasts (viewOf (now (pool .entry)) bank) r) voices ⌝ }
+{
+    let table = voices.table;
+    let count = voices.count;
+    let mut least = most;
+    let mut i: usize = 0;
+    while i < count {
+        let v = table[i];
+        let handle = v.handle;
+        let slot = handle.slot as usize;
+        let clip = bank.clips[slot];
+        let left = voice_ahead(v, clip);
+        if left < least {
+            least = left;
+            i += 1;
+        } else {
+            i += 1;
+        }
+    }
+    least
+}
+
+/// The stinger sums of so many frames, and the voices after them.
+pub fn mix_on(voices: Voices, pool: &[f32], bank: Bank, out: &mut [f32], frames: usize) -> Voices
+    requires { ⌜ Ready (length (now pool)) bank voices × Each (Lasts (viewOf (now pool) bank) frames) voices × (frames * 2 ≤ length (now out)) ⌝ }
+    ensures { λ r. ⌜ (r ≡ voicesBy frames voices) × (now (out .exit) ≡ over (sums (viewOf (now (pool .entry)) bank) (sounding voices)) 0 (frames * 2) (now (out .entry))) ⌝ }
+{
+    let mut table = voices.table;
+    let count = voices.count;
+    let places = frames * 2;
+    passes::clear(&mut out[..], places);
+    let mut i: usize = 0;
+    while i < count {
+        let v = table[i];
+        let handle = v.handle;
+        let slot = handle.slot as usize;
+        let clip = bank.clips[slot];
+        let w = voice_on(v, pool, clip, &mut out[..], frames);
+        table[i] = w;
+        i += 1;
+    }
+    Voices {
+        table: table,
+        count: count,
+    }
+}
+
+// ---- song and tail
+
+/// A clip from a cursor on; past the clip silence.
+fn part_of(clip: Clip, cursor: SongFrame) -> Part
+    requires { ⌜ (clip .start + clip .frames) * 2 < 9223372036854775808 ⌝ }
+    ensures { λ r. ⌜ r ≡ partOf clip (cursor .0) ⌝ }
+{
+    let c = cursor.0;
+    if c < clip.frames {
+        let at = ((clip.start + c) * 2) as usize;
+        return Part { on: true, at: at };
+    }
+    Part { on: false, at: 0 }
+}
+
+/// The song, if it plays.
+fn song_part(clip: Clip, t: Transport) -> Part
+    requires { ⌜ (clip .start + clip .frames) * 2 < 9223372036854775808 ⌝ }
+    ensures { λ r. ⌜ r ≡ songPart clip t ⌝ }
+{
+    let state = t.state;
+    if state.is_playing() {
+        let cursor = t.cursor;
+        return part_of(clip, cursor);
+    }
+    Part { on: false, at: 0 }
+}
+
+/// A cursor so many frames on, in which it does not pass its clip's end.
+fn cursor_by(frames: u64, cursor: SongFrame, n: usize) -> SongFrame
+    requires { ⌜ Inside frames (cursor .0) n ⌝ }
+    ensures { λ r. ⌜ r ≡ record { 0 = cursorBy frames (cursor .0) n } ⌝ }
+{
+    let c = cursor.0;
+    if c < frames {
+        let on = c + n as u64;
+        return SongFrame(on);
+    }
+    cursor
+}
+
+/// A transport so many frames on.
+fn transport_by(t: Transport, frames: u64, n: usize) -> Transport
+    requires { ⌜ (isPlaying (t .state) ≡ true → Inside frames (t .cursor .0) n) × (t .position .0 + n < 18446744073709551616) ⌝ }
+    ensures { λ r. ⌜ r ≡ transportBy frames n t ⌝ }
+{
+    let state = t.state;
+    if state.is_playing() {
+        let position = t.position.0 + n as u64;
+        let was = t.cursor;
+        let cursor = cursor_by(frames, was, n);
+        let looped = t.looped;
+        return Transport {
+            state: state,
+            position: SongFrame(position),
+            cursor: cursor,
+            looped: looped,
+        };
+    }
+    t
+}
+
+/// The master and the tail, so many frames on.
+struct Over {
+    master: Ramp,
+    fade: Fade,
+}
+
+/// So many frames of song and tail, over the sums that stand there. The clip is the tail's.
+fn over_sums(
+    pool: &[f32],
+    song: Part,
+    clip: Clip,
+    master: Ramp,
+    fade: Fade,
+    out: &mut [f32],
+    n: usize,
+) -> Over
+    requires { ⌜ OverReady (now pool) song clip n (length (now out)) (fade .tail) ⌝ }
+    ensures { λ r. ⌜ (r .master ≡ ticksOf n master) × (r .fade .tail ≡ tailIn clip n (fade .tail)) × (now (out .exit) ≡ over (overAdds (now (pool .entry)) song clip master (fade .tail)) 0 (n * 2) (now (out .entry))) ⌝ }
+{
+    let tail = fade.tail;
+    match tail {
+        Tail::None => {
+            let g = passes::add_part(pool, song, out, n, master);
+            Over {
+                master: g,
+                fade: fade,
+            }
+        }
+        Tail::Sounding(h, cursor, weight) => {
+            let part = part_of(clip, cursor);
+            let gains = passes::add_both(pool, song, part, out, n, master, weight);
+            let g = gains.master;
+            let w = gains.weight;
+            let on = cursor_by(clip.frames, cursor, n);
+            Over {
+                master: g,
+                fade: Fade {
+                    tail: Tail::Sounding(h, on, w),
+                },
+            }
+        }
+    }
+}
+
+/// The slot of the tail's clip; without a tail the song's.
+fn tail_slot(tail: Tail, song: Handle) -> u32
+    ensures { λ r. ⌜ r ≡ slotOf tail song ⌝ }
+{
+    match tail {
+        Tail::None => song.slot,
+        Tail::Sounding(h, _, _) => h.slot,
+    }
+}
+
+/// So many frames at once, in which nothing is decided anew.
+pub fn run(stage: Stage, pool: &[f32], bank: Bank, out: &mut [f32], n: usize) -> Stage
+    requires { ⌜ RunReady (now pool) bank n (length (now out)) stage ⌝ }
+    ensures { λ r. ⌜ (r ≡ stageBy (viewOf (now (pool .entry)) bank) n stage) × (now (out .exit) ≡ over (outs (viewOf (now (pool .entry)) bank) stage) 0 (n * 2) (now (out .entry))) ⌝ }
+{
+    let sound = stage.sound;
+    let voices = sound.voices;
+    let next_voices = mix_on(voices, pool, bank, &mut out[..], n);
+    let playhead = stage.playhead;
+    let handle = playhead.song;
+    let slot = handle.slot as usize;
+    let song = bank.clips[slot];
+    let fade = sound.fade;
+    let tail = fade.tail;
+    let tslot = tail_slot(tail, handle) as usize;
+    let clip = bank.clips[tslot];
+    let t = playhead.transport;
+    let part = song_part(song, t);
+    let master = sound.master;
+    let made = over_sums(pool, part, clip, master, fade, &mut out[..], n);
+    let next_master = made.master;
+    let next_fade = made.fade;
+    let next_transport = transport_by(t, song.frames, n);
+    let clock = stage.clock.0 + n as u64;
+    let counters = stage.counters;
+    Stage {
+        clock: ClockFrame(clock),
+        playhead: Playhead {
+            transport: next_transport,
+            song: handle,
+        },
+        sound: Sound {
+            master: next_master,
+            fade: next_fade,
+            voices: next_voices,
+        },
+        counters: counters,
+    }
+}
+
+// ---- how far
+
+/// The lesser of two.
+fn least(a: u64, b: usize) -> usize
+    ensures { λ r. ⌜ (r ≤ a) × (r ≤ b) ⌝ }
+{
+    if a < b as u64 {
+        return a as usize;
+    }
+    b
+}
+
+/// At most so many frames in which a cursor does not pass its clip's end.
+fn cursor_ahead(frames: u64, cursor: SongFrame, most: usize) -> usize
+    ensures { λ r. ⌜ (r ≤ most) × Inside frames (cursor .0) r ⌝ }
+{
+    let c = cursor.0;
+    if c < frames {
+        return least(frames - c, most);
+    }
+    most
+}
+
+/// At most so many frames in which a position does not come to an end; 0 if it stands there.
+fn position_ahead(position: u64, end: u64, most: usize) -> usize
+    ensures { λ r. ⌜ (r ≤ most) × (0 < r → position + r < end) ⌝ }
+{
+    if position < end {
+        let left = end - position;
+        return least(left - 1, most);
+    }
+    0
+}
+
+/// Where a position must not come to.
+fn end_of(t: Transport, extent: SongFrame) -> u64
+    ensures { λ r. ⌜ r ≡ endOf (extent .0) (t .looped) ⌝ }
+{
+    let looped = t.looped;
+    match looped {
+        LoopRange::Off => extent.0,
+        LoopRange::Range(_, end) => end.0,
+    }
+}
+
+/// At most so many frames in which a transport neither wraps nor stops.
+fn song_ahead(t: Transport, frames: u64, extent: SongFrame, most: usize) -> usize
+    ensures { λ r. ⌜ (r ≤ most) × (0 < r → Steady frames (extent .0) r t) ⌝ }
+{
+    let state = t.state;
+    if state.is_playing() {
+        let cursor = t.cursor;
+        let reads = cursor_ahead(frames, cursor, most);
+        let end = end_of(t, extent);
+        return position_ahead(t.position.0, end, reads);
+    }
+    most
+}
+
+/// At most so many frames in which the tail's weight does not land.
+fn tail_ahead(tail: Tail, frames: u64, most: usize) -> usize
+    ensures { λ r. ⌜ (r ≤ most) × (0 < r → FadingIn frames r tail) ⌝ }
+{
+    match tail {
+        Tail::None => most,
+        Tail::Sounding(_, cursor, weight) => {
+            let reads = cursor_ahead(frames, cursor, most);
+            let left = weight.remaining as u64;
+            position_ahead(0, left, reads)
+        }
+    }
+}
+
+/// At most so many frames in which nothing is decided anew.
+pub fn ahead(stage: Stage, pool: &[f32], bank: Bank, most: usize) -> usize
+    requires { ⌜ FrameReady (length (now pool)) bank stage ⌝ }
+    ensures { λ r. ⌜ (r ≤ most) × (0 < r → Calm (viewOf (now (pool .entry)) bank) r stage) ⌝ }
+{
+    let playhead = stage.playhead;
+    let handle = playhead.song;
+    let slot = handle.slot as usize;
+    let song = bank.clips[slot];
+    let t = playhead.transport;
+    let kind = song.kind;
+    let extent = bank::extent_of(kind);
+    let first = song_ahead(t, song.frames, extent, most);
+    let sound = stage.sound;
+    let fade = sound.fade;
+    let tail = fade.tail;
+    let tslot = tail_slot(tail, handle) as usize;
+    let clip = bank.clips[tslot];
+    let second = tail_ahead(tail, clip.frames, first);
+    let voices = sound.voices;
+    voices_ahead(voices, pool, bank, second)
+}
