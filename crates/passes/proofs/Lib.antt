@@ -5,3 +5,4 @@ pub mod Both
 pub mod Ticks
 pub mod Parts
 pub mod Order
+pub mod Four

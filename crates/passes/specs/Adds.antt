@@ -10,6 +10,7 @@ use Rattle.ramp.specs.declared.Ramp.{Ramp}
 use Rattle.ramp.specs.Ramp.{tickOf}
 use Rattle.oneshot.specs.Heard.{heardOf}
 use Rattle.passes.specs.declared.Part.{Part}
+use Rattle.passes.specs.declared.Stream.{Stream}
 
 -- the sample of a part at place k of a run, as heard
 unfoldable pub shareOf : List Float → Part → ℕ → Float
@@ -35,6 +36,14 @@ cleared k x = zero32
 -- what stands there plus the part × a gain
 abbrev pub stillAdds : List Float → Part → Float → ℕ → Float → Float
 stillAdds pool p g k x = add binary32 x (mul binary32 (shareOf pool p k) g)
+
+-- a stream as a part that sounds
+abbrev pub streamAdds : List Float → Stream → ℕ → Float → Float
+streamAdds pool s = stillAdds pool (record { on = true; at = s .at }) (s .gain)
+
+-- four of them in turn
+abbrev pub fourAdds : List Float → Stream → Stream → Stream → Stream → ℕ → Float → Float
+fourAdds pool a b c d k x = streamAdds pool d k (streamAdds pool c k (streamAdds pool b k (streamAdds pool a k x)))
 
 -- what stands there plus the part × the ramp's value in the place's frame
 abbrev pub adds : List Float → Part → Ramp → ℕ → Float → Float

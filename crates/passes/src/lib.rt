@@ -5,7 +5,7 @@ ghost use Prim.Native.Nat.{_+_, _-_, _*_, _≤_, _<_, min};
 ghost use lib.ListN.{length};
 ghost use Rattle.ramp.specs.Number.{zero32};
 ghost use Rattle.passes.specs.Over.{over};
-ghost use Rattle.passes.specs.Adds.{shareOf, ticksOf, stillAdds, adds, bothAdds, cleared, Reads};
+ghost use Rattle.passes.specs.Adds.{shareOf, ticksOf, stillAdds, streamAdds, fourAdds, adds, bothAdds, cleared, Reads};
 use ramp::Ramp;
 
 /// Where in the pool a run's samples stand, or that it is silent.
@@ -47,6 +47,46 @@ pub fn add_still(pool: &[f32], part: Part, out: &mut [f32], from: usize, to: usi
     while k < to {
         let x = share(pool, part, k);
         out[k] = out[k] + x * gain;
+        k += 1;
+    }
+}
+
+/// Samples of the pool from a place on, × a gain that stands still.
+pub struct Stream {
+    pub at: usize,
+    pub gain: f32,
+}
+
+/// What stands at a place, plus a stream's share.
+fn add_stream(pool: &[f32], s: Stream, k: usize, x: f32) -> f32
+    requires { ⌜ s .at + k < length (now pool) ⌝ }
+    ensures { λ r. ⌜ r ≡ streamAdds (now (pool .entry)) s k x ⌝ }
+{
+    let part = Part { on: true, at: s.at };
+    let y = share(pool, part, k);
+    x + y * s.gain
+}
+
+/// Four streams are added in turn, to the places below `to`: in one pass, so that they wait for memory together.
+pub fn add_four(
+    pool: &[f32],
+    a: Stream,
+    b: Stream,
+    c: Stream,
+    d: Stream,
+    out: &mut [f32],
+    to: usize,
+)
+    requires { ⌜ (to ≤ length (now out)) × (a .at + to ≤ length (now pool)) × (b .at + to ≤ length (now pool)) × (c .at + to ≤ length (now pool)) × (d .at + to ≤ length (now pool)) ⌝ }
+    ensures { λ r. ⌜ now (out .exit) ≡ over (fourAdds (now (pool .entry)) a b c d) 0 to (now (out .entry)) ⌝ }
+{
+    let mut k: usize = 0;
+    while k < to {
+        let x = add_stream(pool, a, k, out[k]);
+        let y = add_stream(pool, b, k, x);
+        let z = add_stream(pool, c, k, y);
+        let w = add_stream(pool, d, k, z);
+        out[k] = w;
         k += 1;
     }
 }

@@ -2,11 +2,11 @@
 use mathlib.Core.Path.{_≡_, refl, sym, ap, _∙_}
 use mathlib.Core.Bool.{Bool, true}
 use mathlib.Core.List.{List, [], _∷_, _++_, map, map-append}
-use Prim.Native.Nat.{ℕ, zero, suc, _+_, _*_, _/_, _≤_, _<_}
+use Prim.Native.Nat.{ℕ, zero, suc, _+_, _-_, _*_, _/_, _≤_, _<_}
 use native.Mathlib.Numerals.{add-one}
 use native.Mathlib.Omega.{arith}
 use lib.ListN.{length, getD, take, drop, set, length-map, length-set}
-use lib.Seq.{take-suc, drop-cons, append-snoc, set-at, getD-at, set-getD, length-take-le}
+use lib.Seq.{take-suc, drop-cons, append-snoc, set-at, set-getD, getD-append-add, getD-drop, length-take-le}
 use lib.Ieee.{Float, nan, binary32, add, mul}
 use Rattle.ramp.specs.Number.{zero32}
 use Rattle.bank.specs.declared.Clip.{Clip}
@@ -18,21 +18,45 @@ use Rattle.oneshot.specs.Mix.{sounding}
 use Rattle.oneshot.proofs.Places.{place-inside}
 use Rattle.passes.specs.declared.Part.{Part}
 use Rattle.passes.specs.Over.{over}
-use Rattle.passes.specs.Adds.{shareOf, gainAt, adds, cleared}
+use Rattle.passes.specs.Adds.{shareOf, ticksOf, gainAt, adds, streamAdds, fourAdds, cleared}
+use Rattle.passes.proofs.Four.{four-adds}
+use Rattle.passes.proofs.Ticks.{gain-landed}
 use Rattle.passes.proofs.Over.{length-over, over-same, over-again}
-use Rattle.runs.specs.Voices.{voiceBy, voicesBy, shareIn, voiceAdds, sumFrom, sums}
+use Rattle.runs.specs.Voices.{voiceBy, voicesBy, LastsIn, Still, streamOf, shareIn, voiceAdds, voiceOn, sumFrom, sums}
 
 -- ---- one voice
 
 -- a part that sounds is the clip from the voice's head on
 pub voice-pass : (pool : List Float) (c : Clip) (v : Voice) (n : ℕ) (os : List Float) → v .head .0 + n * 2 < c .frames * 2
-    → over (adds pool (record { on = true; at = c .start * 2 + v .head .0 }) (v .gain)) 0 (n * 2) os ≡ over (voiceAdds (recordingOf pool c) v) 0 (n * 2) os
+    → over (adds pool (record { on = true; at = c .start * 2 + v .head .0 }) (v .gain)) 0 (n * 2) os ≡ voiceOn pool c n v os
 unfolding shareOf shareIn
 voice-pass pool c v n os h =
     over-same (adds pool (record { on = true; at = c .start * 2 + v .head .0 }) (v .gain)) (voiceAdds (recordingOf pool c) v) 0 os (n * 2)
     (λ k a b x.
     let e : c .start * 2 + v .head .0 + k ≡ c .start * 2 + (v .head .0 + k) = omega arith in
     ap (λ y. add binary32 x (mul binary32 y (gainAt (v .gain) (k / 2)))) (ap (λ i. heardOf (getD pool i nan)) e ∙ sym (place-inside pool c (v .head .0 + k) (omega arith))))
+
+-- so is its stream, if its gain stands still
+pub still-pass : (pool : List Float) (c : Clip) (v : Voice) (n : ℕ) (os : List Float) → Still v → v .head .0 + n * 2 < c .frames * 2
+    → over (streamAdds pool (streamOf v c)) 0 (n * 2) os ≡ voiceOn pool c n v os
+unfolding ticksOf
+still-pass pool c v n os r h =
+    over-same (streamAdds pool (streamOf v c)) (adds pool (record { on = true; at = c .start * 2 + v .head .0 }) (v .gain)) 0 os (n * 2)
+    (λ k a b x.
+    ap (λ g. add binary32 x (mul binary32 (shareOf pool (record { on = true; at = c .start * 2 + v .head .0 }) k) g)) (sym (gain-landed 0 (k / 2) (v .gain) (omega (arith, r)) (omega arith))))
+    ∙ voice-pass pool c v n os h
+
+-- four of them
+pub four-pass : (pool : List Float) (n m : ℕ) (a b c d : Voice) (ca cb cc cd : Clip) (os : List Float)
+    → Still a × Still b × Still c × Still d → LastsIn m n a ca × LastsIn m n b cb × LastsIn m n c cc × LastsIn m n d cd × (n * 2 ≤ length os)
+    → over (fourAdds pool (streamOf a ca) (streamOf b cb) (streamOf c cc) (streamOf d cd)) 0 (n * 2) os
+    ≡ voiceOn pool cd n d (voiceOn pool cc n c (voiceOn pool cb n b (voiceOn pool ca n a os)))
+four-pass pool n m a b c d ca cb cc cd os s h =
+    four-adds pool (streamOf a ca) (streamOf b cb) (streamOf c cc) (streamOf d cd) (n * 2) os (h .4)
+    ∙ still-pass pool cd d n _ (s .3) (h .3 .1)
+    ∙ ap (voiceOn pool cd n d)
+    (still-pass pool cc c n _ (s .2) (h .2 .1)
+    ∙ ap (voiceOn pool cc n c) (still-pass pool cb b n _ (s .1) (h .1 .1) ∙ ap (voiceOn pool cb n b) (still-pass pool ca a n os (s .0) (h .0 .1))))
 
 -- ---- voice after voice
 
@@ -63,35 +87,37 @@ module _ (view : View) (old : List Voice) (count n : ℕ) (os : List Float) wher
   mixing-start f r =
       record { upto = omega arith; few = f; room = r; same = refl; places = refl; so = refl; sum = sym (over-idle (sumFrom view []) (λ k x. refl) (n * 2) os) }
 
-  module _ {o : List Float} {table : List Voice} {i : ℕ} (m : Mixing o table i) (d : Voice) (lt : i < count) where
-    below : i < length old
-    below = omega (arith, m .few)
-
+  module _ {o : List Float} {table : List Voice} {i : ℕ} (m : Mixing o table i) where
     moved : length (map (voiceBy n) (take i old)) ≡ i
-    moved = length-map (take i old) (voiceBy n) ∙ length-take-le i old (omega (arith, m .few))
+    moved = length-map (take i old) (voiceBy n) ∙ length-take-le i old (omega (arith, m .upto, m .few))
 
-    -- the voice at i is as it came
-    pub mixing-its : getD table i d ≡ getD old i d
-    mixing-its = rw (m .so, drop-cons old i d below) (getD-at (map (voiceBy n) (take i old)) (getD old i d) (drop (suc i) old) d i moved)
+    -- a voice from i on is as it came
+    pub mixing-its : (j : ℕ) (d : Voice) → i ≤ j → getD table j d ≡ getD old j d
+    mixing-its j d le =
+        let xs : List Voice = map (voiceBy n) (take i old) in
+        let a : length xs + (j - i) ≡ j = omega (arith, moved) in
+        let b : i + (j - i) ≡ j = omega arith in
+        rw (m .so) (ap (λ k. getD (xs ++ drop i old) k d) (sym a) ∙ getD-append-add xs (drop i old) (j - i) d ∙ getD-drop i old (j - i) d ∙ ap (λ k. getD old k d) b)
 
-    -- it is added and moved on
-    pub mixing-turn : Mixing (over (voiceAdds (view (getD old i d .handle)) (getD old i d)) 0 (n * 2) o) (set table i (voiceBy n (getD old i d))) (i + 1)
-    mixing-turn =
-        let v : Voice = getD old i d in
-        let t : take (suc i) old ≡ take i old ++ (v ∷ []) = take-suc old i d below in
+    -- the voice at i is added and moved on
+    pub mixing-turn : (x : Recording) (v d : Voice) → i < count → v ≡ getD old i d → x ≡ view (v .handle) → Mixing (over (voiceAdds x v) 0 (n * 2) o) (set table i (voiceBy n v)) (i + 1)
+    mixing-turn x v d lt ev ex =
+        let below : i < length old = omega (arith, m .few) in
+        let t : take (suc i) old ≡ take i old ++ (v ∷ []) = rw ev (take-suc old i d below) in
         let s : set table i (voiceBy n v) ≡ map (voiceBy n) (take i old) ++ (voiceBy n v ∷ drop (suc i) old) =
-        rw (m .so, drop-cons old i d below) (set-at (map (voiceBy n) (take i old)) v (drop (suc i) old) (voiceBy n v) i moved) in
+        rw (m .so, drop-cons old i d below) (set-at (map (voiceBy n) (take i old)) (getD old i d) (drop (suc i) old) (voiceBy n v) i moved) in
         let e : map (voiceBy n) (take (suc i) old) ++ drop (suc i) old ≡ map (voiceBy n) (take i old) ++ (voiceBy n v ∷ drop (suc i) old) =
         rw (t, map-append (voiceBy n) (take i old) (v ∷ [])) (append-snoc (map (voiceBy n) (take i old)) (voiceBy n v) (drop (suc i) old)) in
-        let a : over (voiceAdds (view (v .handle)) v) 0 (n * 2) o ≡ over (sumFrom view (take (suc i) old)) 0 (n * 2) os =
-        ap (over (voiceAdds (view (v .handle)) v) 0 (n * 2)) (m .sum)
-        ∙ over-again (voiceAdds (view (v .handle)) v) (sumFrom view (take i old)) (n * 2) os (m .room)
-        ∙ over-same _ (sumFrom view (take (suc i) old)) 0 os (n * 2) (λ k b c x. sym (ap (λ vs. sumFrom view vs k x) t ∙ sum-snoc view (take i old) v k x)) in
+        let a : over (voiceAdds x v) 0 (n * 2) o ≡ over (sumFrom view (take (suc i) old)) 0 (n * 2) os =
+        ap (over (voiceAdds x v) 0 (n * 2)) (m .sum)
+        ∙ over-again (voiceAdds x v) (sumFrom view (take i old)) (n * 2) os (m .room)
+        ∙ over-same _ (sumFrom view (take (suc i) old)) 0 os (n * 2)
+        (λ k b c y. ap (λ z. voiceAdds z v k (sumFrom view (take i old) k y)) ex ∙ sym (ap (λ vs. sumFrom view vs k y) t ∙ sum-snoc view (take i old) v k y)) in
         record {
           upto = omega arith;
           few = m .few;
           room = m .room;
-          same = length-over (voiceAdds (view (v .handle)) v) 0 (n * 2) o ∙ m .same;
+          same = length-over (voiceAdds x v) 0 (n * 2) o ∙ m .same;
           places = length-set table i (voiceBy n v) ∙ m .places;
           so = rw add-one (s ∙ sym e);
           sum = rw add-one a;

@@ -1,14 +1,19 @@
 -- Voices over a run of frames in which none of them leaves. Definitions only.
 use Prim.Native.Nat.{ℕ, _+_, _*_, _/_, _<_}
+use mathlib.Core.Path.{_≡_}
 use mathlib.Core.List.{List, [], _∷_, _++_, map}
 use lib.ListN.{drop}
 use lib.Ieee.{Float, binary32, add, mul}
 use Rattle.ramp.specs.Number.{zero32}
-use Rattle.bank.specs.Recording.{Recording, View}
+use Rattle.bank.specs.declared.Clip.{Clip}
+use Rattle.bank.specs.Recording.{Recording, View, recordingOf}
 use Rattle.oneshot.specs.declared.Voice.{Voice}
 use Rattle.oneshot.specs.declared.Voices.{Voices}
 use Rattle.oneshot.specs.Heard.{sampleAt}
 use Rattle.oneshot.specs.Mix.{sounding}
+use Rattle.oneshot.specs.Sounding.{LiesIn}
+use Rattle.passes.specs.declared.Stream.{Stream}
+use Rattle.passes.specs.Over.{over}
 use Rattle.passes.specs.Adds.{ticksOf, gainAt}
 
 -- a voice n frames on
@@ -23,6 +28,18 @@ voicesBy n t = record { table = map (voiceBy n) (sounding t) ++ drop (t .count) 
 abbrev pub Lasts : View → ℕ → Voice → Type 0
 Lasts view n v = v .head .0 + n * 2 < view (v .handle) .frames * 2
 
+-- the same where its clip is c, and the clip lies in a pool of m samples
+abbrev pub LastsIn : ℕ → ℕ → Voice → Clip → Type 0
+LastsIn m n v c = LiesIn m c × (v .head .0 + n * 2 < c .frames * 2)
+
+-- a voice's gain stands still
+abbrev pub Still : Voice → Type 0
+Still v = v .gain .remaining ≡ 0
+
+-- such a voice as a stream of the pool, where its clip is c
+abbrev pub streamOf : Voice → Clip → Stream
+streamOf v c = record { at = c .start * 2 + v .head .0; gain = v .gain .value }
+
 -- what a voice adds at place k of a run, where its clip is x
 unfoldable pub shareIn : Recording → Voice → ℕ → Float
 shareIn x v k = mul binary32 (sampleAt x (v .head .0 + k)) (gainAt (v .gain) (k / 2))
@@ -30,6 +47,10 @@ shareIn x v k = mul binary32 (sampleAt x (v .head .0 + k)) (gainAt (v .gain) (k 
 -- as a rule of a pass
 abbrev pub voiceAdds : Recording → Voice → ℕ → Float → Float
 voiceAdds x v k y = add binary32 y (shareIn x v k)
+
+-- a voice's n frames, added to what stands there
+abbrev pub voiceOn : List Float → Clip → ℕ → Voice → List Float → List Float
+voiceOn pool c n v os = over (voiceAdds (recordingOf pool c) v) 0 (n * 2) os
 
 -- voices in firing order, each added to the sum
 unfoldable pub sumFrom : View → List Voice → ℕ → Float → Float

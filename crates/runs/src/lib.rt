@@ -5,12 +5,12 @@ ghost use lib.ListN.{length};
 ghost use mathlib.Core.Bool.{true};
 ghost use Rattle.transport.specs.Transport.{isPlaying};
 ghost use Rattle.stage.specs.Ready.{FrameReady};
-ghost use Rattle.bank.specs.Recording.{recordingOf, viewOf};
+ghost use Rattle.bank.specs.Recording.{viewOf};
 ghost use Rattle.oneshot.specs.Mix.{sounding};
-ghost use Rattle.oneshot.specs.Sounding.{LiesIn, Each, Ready};
+ghost use Rattle.oneshot.specs.Sounding.{Each, Ready};
 ghost use Rattle.passes.specs.Over.{over};
 ghost use Rattle.passes.specs.Adds.{ticksOf};
-ghost use Rattle.runs.specs.Voices.{voiceBy, voicesBy, Lasts, voiceAdds, sums};
+ghost use Rattle.runs.specs.Voices.{voiceBy, voicesBy, Lasts, LastsIn, Still, streamOf, voiceOn, sums};
 ghost use Rattle.runs.specs.Run.{cursorBy, transportBy, stageBy, endOf, Inside, Steady, Calm, outs};
 ghost use Rattle.runs.specs.Parts.{partOf, songPart, slotOf, tailIn, overAdds, OverReady, RunReady, FadingIn};
 use bank::Bank;
@@ -22,6 +22,7 @@ use counts::SongFrame;
 use oneshot::Voice;
 use oneshot::Voices;
 use passes::Part;
+use passes::Stream;
 use ramp::Ramp;
 use stage::Fade;
 use stage::Playhead;
@@ -33,8 +34,8 @@ use transport::Transport;
 
 /// So many frames of a voice whose clip has more: each adds its share.
 pub fn voice_on(v: Voice, pool: &[f32], clip: Clip, out: &mut [f32], frames: usize) -> Voice
-    requires { ⌜ LiesIn (length (now pool)) clip × (v .head .0 + frames * 2 < clip .frames * 2) × (frames * 2 ≤ length (now out)) ⌝ }
-    ensures { λ r. ⌜ (r ≡ voiceBy frames v) × (now (out .exit) ≡ over (voiceAdds (recordingOf (now (pool .entry)) clip) v) 0 (frames * 2) (now (out .entry))) ⌝ }
+    requires { ⌜ LastsIn (length (now pool)) frames v clip × (frames * 2 ≤ length (now out)) ⌝ }
+    ensures { λ r. ⌜ (r ≡ voiceBy frames v) × (now (out .exit) ≡ voiceOn (now (pool .entry)) clip frames v (now (out .entry))) ⌝ }
 {
     let handle = v.handle;
     let head = v.head.0;
@@ -48,6 +49,102 @@ pub fn voice_on(v: Voice, pool: &[f32], clip: Clip, out: &mut [f32], frames: usi
         handle: handle,
         head: SamplePlace(next),
         gain: gain,
+    }
+}
+
+/// A voice whose gain stands still, as a stream of the pool.
+fn stream_of(v: Voice, clip: Clip) -> Stream
+    requires { ⌜ clip .start * 2 + v .head .0 < 9223372036854775808 ⌝ }
+    ensures { λ r. ⌜ r ≡ streamOf v clip ⌝ }
+{
+    let head = v.head.0;
+    let start = (clip.start * 2) as usize;
+    let at = start + head;
+    let gain = v.gain;
+    Stream {
+        at: at,
+        gain: gain.value,
+    }
+}
+
+/// A voice whose gain stands still, so many frames on.
+fn still_by(v: Voice, frames: usize) -> Voice
+    requires { ⌜ Still v × (v .head .0 + frames * 2 < 9223372036854775808) ⌝ }
+    ensures { λ r. ⌜ r ≡ voiceBy frames v ⌝ }
+{
+    let handle = v.handle;
+    let gain = v.gain;
+    let next = v.head.0 + frames * 2;
+    Voice {
+        handle: handle,
+        head: SamplePlace(next),
+        gain: gain,
+    }
+}
+
+/// The gains of four voices stand still.
+fn all_still(a: Voice, b: Voice, c: Voice, d: Voice) -> bool
+    ensures { λ r. ⌜ (r ≡ true → Still a × Still b × Still c × Still d) ⌝ }
+{
+    let ga = a.gain;
+    let gb = b.gain;
+    let gc = c.gain;
+    let gd = d.gain;
+    ga.at_target() & gb.at_target() & gc.at_target() & gd.at_target()
+}
+
+/// Four voices, in firing order.
+struct Four {
+    a: Voice,
+    b: Voice,
+    c: Voice,
+    d: Voice,
+}
+
+/// So many frames of four voices whose clips have more: each adds its share, in turn. Where their gains stand still, they are added together.
+fn four_on(
+    a: Voice,
+    b: Voice,
+    c: Voice,
+    d: Voice,
+    pool: &[f32],
+    ca: Clip,
+    cb: Clip,
+    cc: Clip,
+    cd: Clip,
+    out: &mut [f32],
+    frames: usize,
+) -> Four
+    requires { ⌜ LastsIn (length (now pool)) frames a ca × LastsIn (length (now pool)) frames b cb × LastsIn (length (now pool)) frames c cc × LastsIn (length (now pool)) frames d cd × (frames * 2 ≤ length (now out)) ⌝ }
+    ensures { λ r. ⌜ (r ≡ record { a = voiceBy frames a; b = voiceBy frames b; c = voiceBy frames c; d = voiceBy frames d }) × (now (out .exit) ≡ voiceOn (now (pool .entry)) cd frames d (voiceOn (now (pool .entry)) cc frames c (voiceOn (now (pool .entry)) cb frames b (voiceOn (now (pool .entry)) ca frames a (now (out .entry)))))) ⌝ }
+{
+    if all_still(a, b, c, d) {
+        let places = frames * 2;
+        let sa = stream_of(a, ca);
+        let sb = stream_of(b, cb);
+        let sc = stream_of(c, cc);
+        let sd = stream_of(d, cd);
+        passes::add_four(pool, sa, sb, sc, sd, out, places);
+        let wa = still_by(a, frames);
+        let wb = still_by(b, frames);
+        let wc = still_by(c, frames);
+        let wd = still_by(d, frames);
+        return Four {
+            a: wa,
+            b: wb,
+            c: wc,
+            d: wd,
+        };
+    }
+    let wa = voice_on(a, pool, ca, &mut out[..], frames);
+    let wb = voice_on(b, pool, cb, &mut out[..], frames);
+    let wc = voice_on(c, pool, cc, &mut out[..], frames);
+    let wd = voice_on(d, pool, cd, &mut out[..], frames);
+    Four {
+        a: wa,
+        b: wb,
+        c: wc,
+        d: wd,
     }
 }
 
@@ -97,13 +194,37 @@ pub fn mix_on(voices: Voices, pool: &[f32], bank: Bank, out: &mut [f32], frames:
     passes::clear(&mut out[..], places);
     let mut i: usize = 0;
     while i < count {
-        let v = table[i];
-        let handle = v.handle;
-        let slot = handle.slot as usize;
-        let clip = bank.clips[slot];
-        let w = voice_on(v, pool, clip, &mut out[..], frames);
-        table[i] = w;
-        i += 1;
+        if 4 <= count - i {
+            let j = i + 1;
+            let k = i + 2;
+            let l = i + 3;
+            let a = table[i];
+            let b = table[j];
+            let c = table[k];
+            let d = table[l];
+            let ca = bank.clips[a.handle.slot as usize];
+            let cb = bank.clips[b.handle.slot as usize];
+            let cc = bank.clips[c.handle.slot as usize];
+            let cd = bank.clips[d.handle.slot as usize];
+            let w = four_on(a, b, c, d, pool, ca, cb, cc, cd, &mut out[..], frames);
+            let wa = w.a;
+            let wb = w.b;
+            let wc = w.c;
+            let wd = w.d;
+            table[i] = wa;
+            table[j] = wb;
+            table[k] = wc;
+            table[l] = wd;
+            i += 4;
+        } else {
+            let v = table[i];
+            let handle = v.handle;
+            let slot = handle.slot as usize;
+            let clip = bank.clips[slot];
+            let w = voice_on(v, pool, clip, &mut out[..], frames);
+            table[i] = w;
+            i += 1;
+        }
     }
     Voices {
         table: table,
