@@ -1,7 +1,8 @@
 //! Random sessions inside the domain of the comparison, each decided by its seed and its size, leaning
-//! towards short songs, loops, crowded frames and crowded swaps.
+//! towards short songs, loops, crowded frames and crowded swaps. Long ones also have clips of a few frames,
+//! clips that are spoiled, choruses, and blocks up to where something ends; a short one draws for none of it.
 
-use threshreed::raw::{At, Clip, Command, Handle};
+use threshreed::raw::{At, Clip, Command, Handle, Ramp};
 
 use crate::both::{Both, Difference};
 use crate::dice::Dice;
@@ -15,7 +16,7 @@ use crate::script::{
 };
 
 /// How long a session is.
-#[derive(Clone, Copy)]
+#[derive(Clone, Copy, PartialEq)]
 pub enum Size {
     /// For the fixed list.
     Short,
@@ -31,6 +32,7 @@ enum Mood {
     Bursts,
     Rides,
     FullQueue,
+    Close,
 }
 
 /// A session that was played to its end without a difference.
@@ -43,14 +45,14 @@ pub struct Played {
 /// Plays the session of this seed on both sides.
 pub fn play(seed: u64, size: Size, lines: bool) -> Result<Played, Difference> {
     let mut dice = Dice::new(seed);
-    let song = song(&mut dice, 1);
+    let song = song(&mut dice, size, 1);
     let rate = match size {
         Size::Short => RATE,
         Size::Long => dice.pick(&[RATE, RATE, RATE, 8_000, 44_100, 44_250, 192_000]),
     };
     let mut player = Player {
         both: Both::open(seed, rate, song, lines)?,
-        mood: mood(&mut dice),
+        mood: mood(&mut dice, size),
         dice,
         size,
         loads: 1,
@@ -87,6 +89,7 @@ struct Player {
 enum Step {
     Submit,
     Burst,
+    Chorus,
     Transition,
     Block,
     Load,
@@ -129,9 +132,15 @@ impl Player {
     /// One step. False if the session cannot go on inside the domain.
     fn step(&mut self) -> Result<bool, Difference> {
         let burst = if self.mood == Mood::Bursts { 6 } else { 1 };
+        let chorus = match self.mood {
+            Mood::Close => 8,
+            _ if self.size == Size::Long => 1,
+            _ => 0,
+        };
         let step = self.dice.weighed(&[
             (Step::Submit, 44),
             (Step::Burst, burst),
+            (Step::Chorus, chorus),
             (Step::Transition, 6),
             (Step::Block, 36),
             (Step::Load, 6),
@@ -150,6 +159,7 @@ impl Player {
                 self.submit(command, at)?;
             }
             Step::Burst => self.burst()?,
+            Step::Chorus => self.chorus()?,
             Step::Transition => {
                 let frame = self.place().min(4_000);
                 let at = self.time();
@@ -207,6 +217,9 @@ impl Player {
     }
 
     fn block_frames(&mut self) -> usize {
+        if self.size == Size::Long && self.dice.one_in(4) {
+            return self.frames_to_an_end();
+        }
         let ours = &self.both.ours;
         let clock = ours.session.clock;
         let to_first = ours.first_due().map(|at| at.saturating_sub(clock));
@@ -229,6 +242,24 @@ impl Player {
             },
             _ => self.dice.from(1, 300) as usize,
         }
+    }
+
+    /// Up to where a ramp lands, a voice ends or the loop comes round, or a frame beside it.
+    fn frames_to_an_end(&mut self) -> usize {
+        let ours = &self.both.ours;
+        let session = &ours.session;
+        let ramp = |x: &Ramp| u64::from(x.remaining);
+        let mut ends = vec![
+            64,
+            ramp(&session.master),
+            ramp(&session.tail.weight),
+            session.looped.end.saturating_sub(session.position),
+        ];
+        ends.extend(ours.voices().iter().map(|voice| ramp(&voice.gain)));
+        ends.extend(ours.voices().iter().map(|voice| ours.left(voice)));
+        ends.retain(|frames| (1..2_000).contains(frames));
+        let end = self.dice.pick(&ends);
+        (end + self.dice.below(3) - 1) as usize
     }
 
     /// Ends a block with a seek past the loop's end, so that the next one begins there.
@@ -264,6 +295,7 @@ impl Player {
             Mood::Swaps => [3, 4, 1, 3, 2, 1, 2, 12, 1],
             Mood::Bursts => [3, 1, 1, 1, 1, 1, 2, 1, 16],
             Mood::Rides => [4, 1, 1, 1, 1, 1, 16, 1, 1],
+            Mood::Close => [8, 2, 1, 2, 8, 2, 6, 6, 8],
         };
         const KINDS: [u32; 9] = [
             kind::PLAY,
@@ -321,10 +353,27 @@ impl Player {
         Ok(())
     }
 
+    /// Stingers that all end on one frame, each fired as long before it as its clip is.
+    fn chorus(&mut self) -> Result<(), Difference> {
+        let clock = self.both.ours.session.clock;
+        let end = clock + self.dice.pick(&[8, 100, 400, 900]) + self.dice.below(64);
+        for _ in 0..self.stingers_left() {
+            let command = self.of_kind(kind::STINGER);
+            let frames = self.both.ours.clip(command.clip).frames;
+            if command.kind == kind::STINGER && clock + frames <= end {
+                self.submit(command, at_frame(end - frames))?;
+            }
+        }
+        Ok(())
+    }
+
     fn looped(&mut self, bare: Command) -> Command {
         let clip = *self.both.ours.clip(self.both.ours.session.song);
         let start = self.dice.below(clip.frames);
-        let span = self.dice.pick(&[1, 2, 3, 10, 50, 200, 1_000]);
+        let span = match self.mood {
+            Mood::Close => 8,
+            _ => self.dice.pick(&[1, 2, 3, 10, 50, 200, 1_000]),
+        };
         let end = match self.dice.below(8) {
             0 => clip.extent.min(1 << 31),
             1 => clip.frames,
@@ -439,8 +488,8 @@ impl Player {
     fn load(&mut self) -> Result<(), Difference> {
         self.loads += 1;
         let material = match self.dice.below(3) {
-            0 => song(&mut self.dice, self.loads),
-            _ => stinger(&mut self.dice, self.loads),
+            0 => song(&mut self.dice, self.size, self.loads),
+            _ => stinger(&mut self.dice, self.size, self.loads),
         };
         if self.loaded().count() == 32 || !self.has_room(material.frames) {
             return Ok(());
@@ -452,7 +501,7 @@ impl Player {
     fn retire(&mut self) -> Result<(), Difference> {
         let ours = &self.both.ours;
         let session = &ours.session;
-        let voices = &session.voices.table[..session.voices.count];
+        let voices = ours.voices();
         let held = |handle: &Handle| {
             let named = |row: &Row| claimed(row) == Some(handle_word(*handle));
             session.song == *handle
@@ -525,7 +574,11 @@ fn stingers<'a>(rows: impl Iterator<Item = &'a Row>) -> usize {
         .count()
 }
 
-fn mood(dice: &mut Dice) -> Mood {
+fn mood(dice: &mut Dice, size: Size) -> Mood {
+    let close = match size {
+        Size::Short => 0,
+        Size::Long => 16,
+    };
     dice.weighed(&[
         (Mood::Anything, 24),
         (Mood::Loops, 10),
@@ -533,12 +586,14 @@ fn mood(dice: &mut Dice) -> Mood {
         (Mood::Bursts, 10),
         (Mood::Rides, 9),
         (Mood::FullQueue, 1),
+        (Mood::Close, close),
     ])
 }
 
 /// A short song, whose length may exceed its frames.
-fn song(dice: &mut Dice, load: u32) -> Material {
+fn song(dice: &mut Dice, size: Size, load: u32) -> Material {
     let frames = match dice.below(4) {
+        _ if size == Size::Long && dice.one_in(8) => dice.from(1, 8),
         0 => dice.from(64, 200),
         1 | 2 => dice.from(200, 1_200),
         _ => dice.from(1_200, 3_000),
@@ -553,16 +608,25 @@ fn song(dice: &mut Dice, load: u32) -> Material {
         frames,
         extent,
         seed: seed(dice, load),
+        spoiled: spoiled(dice, size),
     }
 }
 
-fn stinger(dice: &mut Dice, load: u32) -> Material {
+fn stinger(dice: &mut Dice, size: Size, load: u32) -> Material {
     Material {
         kind: STINGER,
-        frames: dice.pick(&[1, 2, 30, 95, 96, 97, 200, 400, 900]),
+        frames: match size {
+            Size::Long if dice.one_in(4) => dice.from(1, 8),
+            _ => dice.pick(&[1, 2, 30, 95, 96, 97, 200, 400, 900]),
+        },
         extent: 0,
         seed: seed(dice, load),
+        spoiled: spoiled(dice, size),
     }
+}
+
+fn spoiled(dice: &mut Dice, size: Size) -> bool {
+    size == Size::Long && dice.one_in(4)
 }
 
 /// A clip's seed, which no other clip of the session has.

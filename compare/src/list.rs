@@ -104,6 +104,7 @@ fn clip(kind: u32, frames: u64, seed: u32) -> Material {
         frames,
         extent: if kind == SONG { frames } else { 0 },
         seed,
+        spoiled: false,
     }
 }
 

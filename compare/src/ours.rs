@@ -30,7 +30,9 @@ pub fn handle_word(clip: Handle) -> u64 {
 
 impl Ours {
     pub fn open(rate: u32, song: Material) -> (Ours, Answer) {
-        Ours::open_on(rate, &clip::samples(song.seed, song.frames), song.extent)
+        let (mut ours, answer) = Ours::open_on(rate, &song.samples(), song.extent);
+        ours.spoil(song, &answer);
+        (ours, answer)
     }
 
     /// A session on a song of these samples.
@@ -60,9 +62,10 @@ impl Ours {
         match call {
             Call::Open(_) => panic!("the session is open"),
             Call::Load(clip) => {
-                let samples = clip::samples(clip.seed, clip.frames);
                 let rate = self.session.settings.rate;
-                self.load(&samples, clip.kind, clip.extent, rate)
+                let answer = self.load(&clip.samples(), clip.kind, clip.extent, rate);
+                self.spoil(*clip, &answer);
+                answer
             }
             Call::Retire(clip) => self.retire(*clip),
             Call::Submit(command, at) => self.submit(*command, *at),
@@ -90,6 +93,16 @@ impl Ours {
         );
         self.session = loaded.session;
         answer(loaded.refusal, Answer::Loaded(loaded.handle))
+    }
+
+    /// Writes over a clip where it was loaded.
+    fn spoil(&mut self, clip: Material, loaded: &Answer) {
+        if let Answer::Loaded(handle) = loaded {
+            let start = 2 * self.clip(*handle).start as usize;
+            for (place, sample) in clip.spoils() {
+                self.pool[start + place] = sample;
+            }
+        }
     }
 
     fn retire(&mut self, clip: Handle) -> Answer {
@@ -212,6 +225,24 @@ impl Ours {
     /// The frame of the first queued record.
     pub fn first_due(&self) -> Option<u64> {
         self.waiting().next().map(|row| row[0])
+    }
+
+    /// The voices that sound.
+    pub fn voices(&self) -> &[raw::Voice] {
+        &self.session.voices.table[..self.session.voices.count]
+    }
+
+    /// How many frames a voice has left.
+    pub fn left(&self, voice: &raw::Voice) -> u64 {
+        self.clip(voice.handle).frames - voice.head as u64 / 2
+    }
+
+    /// Whether a frame of a clip has a pattern that reads as +0.0.
+    pub fn is_silenced(&self, handle: Handle, frame: u64) -> bool {
+        let clip = self.clip(handle);
+        let place = 2 * (clip.start + frame) as usize;
+        let silenced = |x: &f32| clip::heard(*x).to_bits() != x.to_bits();
+        frame < clip.frames && self.pool[place..place + 2].iter().any(silenced)
     }
 
     /// The clip of a live handle.

@@ -3,13 +3,13 @@
 use std::fmt;
 use std::ops::AddAssign;
 
-use threshreed::raw::Session;
+use threshreed::raw::{Session, Voice};
 
 use crate::ours::Ours;
 use crate::script::{Answer, Call, state};
 
 /// The situations, in the order in which they are counted.
-const NAMES: [&str; 17] = [
+const NAMES: [&str; 30] = [
     "16 voices",
     "two due at a block's end",
     "a swap in a swap",
@@ -27,7 +27,26 @@ const NAMES: [&str; 17] = [
     "a submission refused with 15",
     "a capture that has records",
     "a replay that takes records",
+    "a loop of at most 8 frames that comes round",
+    "a song of at most 8 frames",
+    "a voice of at most 8 frames",
+    "voices that end together",
+    "voices that end together before others",
+    "four voices at rest before one whose gain moves",
+    "a gain ride that lands inside a block",
+    "a voice's gain that lands inside a block",
+    "a landing on a block's last frame",
+    "a block's end while gain, tail and a voice's gain move",
+    "a song's sample that reads as +0.0",
+    "a tail's sample that reads as +0.0",
+    "a voice's sample that reads as +0.0",
 ];
+
+/// The fixed list must reach the first so many of them.
+const LISTED: usize = 17;
+
+/// At most so many frames are few.
+const FEW: u64 = 8;
 
 /// A count for each situation, and of the calls, the frames and the samples that were not silent.
 #[derive(Clone, Copy, Default)]
@@ -43,14 +62,68 @@ pub struct Moment {
     session: Session,
     /// Whether the first queued record's frame has come.
     due: bool,
+    /// The frames that each voice has left.
+    left: Vec<u64>,
+    /// Whether the next frame reads a pattern as +0.0 for the song, for the tail, for a voice.
+    silenced: [bool; 3],
 }
 
 impl Moment {
     pub fn of(ours: &Ours) -> Moment {
+        let (session, voices) = (&ours.session, ours.voices());
+        let tail = &session.tail;
         Moment {
-            session: ours.session,
-            due: ours.first_due().is_some_and(|at| at <= ours.session.clock),
+            session: *session,
+            due: ours.first_due().is_some_and(|at| at <= session.clock),
+            left: voices.iter().map(|voice| ours.left(voice)).collect(),
+            silenced: [
+                session.state == state::PLAYING && ours.is_silenced(session.song, session.cursor),
+                tail.sounding == 1 && ours.is_silenced(tail.song, tail.cursor),
+                voices
+                    .iter()
+                    .any(|voice| ours.is_silenced(voice.handle, voice.head as u64 / 2)),
+            ],
         }
+    }
+
+    fn voices(&self) -> &[Voice] {
+        &self.session.voices.table[..self.session.voices.count]
+    }
+
+    /// A block of so many frames, in which nothing is executed, ends a pass of a short loop.
+    fn comes_round(&self, frames: u64) -> bool {
+        let Session {
+            looped, position, ..
+        } = self.session;
+        self.session.state == state::PLAYING
+            && looped.set == 1
+            && looped.end - looped.start <= FEW
+            && position < looped.end
+            && position + frames >= looped.end
+    }
+
+    /// The frames left of the first voices that end together, if a block of so many frames has their end.
+    fn together(&self, frames: u64) -> Option<u64> {
+        let mut left = self.left.clone();
+        left.sort();
+        let same = left.windows(2).find(|pair| pair[0] == pair[1]);
+        same.map(|pair| pair[0]).filter(|left| *left <= frames)
+    }
+
+    /// How many voices have a gain that rests. They stand before those whose gain moves, which were fired later.
+    fn at_rest(&self) -> usize {
+        let rests = |voice: &&Voice| voice.gain.remaining == 0;
+        self.voices().iter().take_while(rests).count()
+    }
+
+    /// In how many frames the gains of voices land that have as many left.
+    fn voice_landings(&self) -> impl Iterator<Item = u64> {
+        let remaining = self
+            .voices()
+            .iter()
+            .map(|voice| u64::from(voice.gain.remaining));
+        let lands = |(remaining, left): &(u64, &u64)| 0 < *remaining && remaining <= left;
+        remaining.zip(&self.left).filter(lands).map(|(x, _)| x)
     }
 
     /// The song's position is at its loop's end or past it.
@@ -79,6 +152,12 @@ impl Reached {
             _ => None,
         };
         let some_frames = block.is_some_and(|frames| frames > 0);
+        let frames = block.unwrap_or(0) as u64;
+        let nothing_due = some_frames && !before.due;
+        let undisturbed = some_frames && is.counters.executed == was.counters.executed;
+        let together = before.together(frames);
+        let ride = u64::from(was.master.remaining);
+        let fade = u64::from(was.tail.weight.remaining);
         let swapped = is.counters.swaps > was.counters.swaps;
         let transition = matches!((call, answer), (Call::Transition(..), Answer::Queued(_)));
         let full = matches!(answer, Answer::Replayed(report) if report.full > 0);
@@ -110,6 +189,31 @@ impl Reached {
             *answer == Answer::Refused(15),
             records,
             taken,
+            undisturbed && before.comes_round(frames),
+            nothing_due
+                && was.state == state::PLAYING
+                && was.clips[was.song.slot as usize].frames <= FEW,
+            some_frames
+                && before
+                    .voices()
+                    .iter()
+                    .any(|voice| was.clips[voice.handle.slot as usize].frames <= FEW),
+            together.is_some(),
+            together.is_some_and(|end| before.left.iter().any(|left| *left > end)),
+            some_frames && before.at_rest() >= 4 && before.voice_landings().next().is_some(),
+            undisturbed && 0 < ride && ride < frames,
+            before.voice_landings().any(|landing| landing < frames),
+            undisturbed
+                && (ride == frames
+                    || before.tail() && fade == frames
+                    || before.voice_landings().any(|landing| landing == frames)),
+            undisturbed
+                && is.master.remaining > 0
+                && after.tail()
+                && after.voice_landings().next().is_some(),
+            nothing_due && !before.past_loop() && before.silenced[0],
+            nothing_due && before.silenced[1],
+            nothing_due && before.silenced[2],
         ];
         for (count, seen) in self.situations.iter_mut().zip(seen) {
             *count += u64::from(seen);
@@ -123,7 +227,16 @@ impl Reached {
 
     /// The situations that were never reached.
     pub fn missing(&self) -> Vec<&'static str> {
-        let counted = NAMES.into_iter().zip(self.situations);
+        self.missing_of(NAMES.len())
+    }
+
+    /// Those of them that the fixed list must reach.
+    pub fn missing_in_list(&self) -> Vec<&'static str> {
+        self.missing_of(LISTED)
+    }
+
+    fn missing_of(&self, first: usize) -> Vec<&'static str> {
+        let counted = NAMES.into_iter().zip(self.situations).take(first);
         let never = counted.filter(|(_, count)| *count == 0);
         never.map(|(name, _)| name).collect()
     }

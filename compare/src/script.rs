@@ -5,6 +5,8 @@ use std::fmt;
 
 use threshreed::raw::{At, Command, Handle, Loop, Report};
 
+use crate::clip;
+
 /// The rate of the fixed list.
 pub const RATE: u32 = 48_000;
 pub const QUEUE: usize = 4_096;
@@ -49,6 +51,27 @@ pub struct Material {
     pub frames: u64,
     pub extent: u64,
     pub seed: u32,
+    /// Whether our pool is written over where it lies. No clip of the fixed list is.
+    pub spoiled: bool,
+}
+
+impl Material {
+    /// What is written over the clip in our pool, by places.
+    pub fn spoils(&self) -> Vec<(usize, f32)> {
+        match self.spoiled {
+            true => clip::spoils(self.seed, self.frames),
+            false => Vec::new(),
+        }
+    }
+
+    /// The samples as they will be heard, which both sides load.
+    pub fn samples(&self) -> Vec<f32> {
+        let mut samples = clip::samples(self.seed, self.frames);
+        for (place, sample) in self.spoils() {
+            samples[place] = clip::heard(sample);
+        }
+        samples
+    }
 }
 
 /// A call. A replay takes the list that the last stop of the session gave, and the snapshot that is

@@ -3,7 +3,6 @@
 
 use threshreed::raw::{At, Command, Handle, Loop, Report};
 
-use crate::clip;
 use crate::ours::handle_word;
 use crate::runtime::performance;
 use crate::script::{
@@ -214,15 +213,14 @@ fn pairs(samples: &[f32]) -> Vec<Pair> {
 }
 
 fn song(rate: u32, material: Material) -> Song {
-    let samples = clip::samples(material.seed, material.frames);
-    Song::new(rate, &pairs(&samples), material.extent)
+    Song::new(rate, &pairs(&material.samples()), material.extent)
 }
 
 fn made(rate: u32, material: Material) -> Clip {
     if material.kind == SONG {
         return Clip::Song(song(rate, material));
     }
-    let samples = clip::samples(material.seed, material.frames);
+    let samples = material.samples();
     Clip::Stinger(Stinger::new(rate, &pairs(&samples)), samples)
 }
 

@@ -17,7 +17,11 @@ fn our_library_and_the_rust_agree() {
 fn the_fixed_list_is_what_the_writer_writes() {
     let (text, reached) = list::written().unwrap_or_else(|x| panic!("{x}"));
     println!("{reached}");
-    assert_eq!(reached.missing(), Vec::<&str>::new(), "never reached");
+    assert_eq!(
+        reached.missing_in_list(),
+        Vec::<&str>::new(),
+        "never reached"
+    );
     assert!(text.len() <= list::MOST_BYTES);
     is_committed(&list::path(), &text);
 }
