@@ -12,13 +12,23 @@ use std::hint::black_box;
 use std::time::Instant;
 
 use compare::session::{At, Session, Song, Stinger, Submission};
-use threshreed::{ClockFrame, Command, Handle, WORDS};
+use threshreed::{ClockFrame, Command, Handle, LoopRange, SongFrame, WORDS};
 
 const RATE: u32 = 48_000;
 const QUEUE: usize = 4_096;
-const POOL: usize = 1 << 21;
 const RUNS: usize = 7;
 const ROUNDS: usize = 41;
+
+/// The frames of a clip: no case plays one to its end.
+const FRAMES: usize = 400_000;
+/// Room for two songs and for a clip of each voice.
+const POOL: usize = 18 * FRAMES;
+/// More bytes than any cache holds.
+const CACHES: usize = 256 << 20;
+/// A frame that no block here reaches.
+const LATER: u64 = 1 << 40;
+/// Where a loop begins.
+const LOOP: u64 = 1_000;
 
 /// Plain audio: two tones of other pitches on the two sides.
 fn audio(frames: usize, pitch: f32) -> Vec<(f32, f32)> {
@@ -36,8 +46,10 @@ fn interleaved(frames: &[(f32, f32)]) -> Vec<f32> {
         .collect()
 }
 
-/// A frame that no block here reaches.
-const LATER: u64 = 1 << 40;
+/// Puts everything else out of the caches.
+fn forget() {
+    black_box(vec![1u8; CACHES]);
+}
 
 /// The stores of our session.
 struct Stores {
@@ -70,34 +82,36 @@ struct Both<'a> {
     ours: threshreed::Session<'a>,
     tono: Session,
     next: (Handle, Song),
-    bell: (Handle, Stinger),
+    bells: Vec<(Handle, Stinger)>,
 }
 
 impl Both<'_> {
-    fn playing(stores: &mut Stores) -> Both<'_> {
-        let room = audio(400_000, 220.0);
-        let other = audio(400_000, 330.0);
-        let ring = audio(400_000, 880.0);
+    /// With so many clips for voices.
+    fn playing(stores: &mut Stores, bells: usize) -> Both<'_> {
+        let room = audio(FRAMES, 220.0);
+        let other = audio(FRAMES, 330.0);
         let mut ours = stores.open(&interleaved(&room));
-        let samples = interleaved(&other);
         let next = ours
-            .load_song(threshreed::Song::new(&samples, RATE))
+            .load_song(threshreed::Song::new(&interleaved(&other), RATE))
             .expect("the song has room");
-        let samples = interleaved(&ring);
-        let bell = ours
-            .load_stinger(threshreed::Stinger {
-                samples: &samples,
-                rate: RATE,
+        let bells = (0..bells)
+            .map(|n| {
+                let ring = audio(FRAMES, 880.0 + 20.0 * n as f32);
+                let bell = ours.load_stinger(threshreed::Stinger {
+                    samples: &interleaved(&ring),
+                    rate: RATE,
+                });
+                let bell = bell.expect("the stinger has room");
+                (bell, Stinger::new(RATE, &ring))
             })
-            .expect("the stinger has room");
+            .collect();
         let mut both = Both {
             ours,
             tono: Session::open(&Song::new(RATE, &room, room.len() as u64)),
             next: (next, Song::new(RATE, &other, other.len() as u64)),
-            bell: (bell, Stinger::new(RATE, &ring)),
+            bells,
         };
         both.submit(Command::Play, Submission::Play, 0);
-        both.block(&mut [0.0; 2]);
         both
     }
 
@@ -111,9 +125,10 @@ impl Both<'_> {
             .expect("the queue has room");
     }
 
+    /// Voices, each of the next clip.
     fn ring(&mut self, voices: usize) {
-        for _ in 0..voices {
-            let (handle, stinger) = self.bell.clone();
+        for n in 0..voices {
+            let (handle, stinger) = self.bells[n % self.bells.len()].clone();
             self.submit(
                 Command::Stinger(handle, 0.5),
                 Submission::Stinger(stinger, 0.5),
@@ -129,6 +144,17 @@ impl Both<'_> {
     fn swap(&mut self) {
         let (handle, song) = self.next.clone();
         self.submit(Command::Swap(handle), Submission::Swap(song), 0);
+    }
+
+    /// The song into a loop of so many frames.
+    fn go_round(&mut self, frames: u64) {
+        let (start, end) = (SongFrame(LOOP), SongFrame(LOOP + frames));
+        self.submit(Command::Seek(start), Submission::Seek(start.0), 0);
+        self.submit(
+            Command::Loop(LoopRange { start, end }),
+            Submission::Loop(start.0, end.0),
+            0,
+        );
     }
 
     /// Commands that wait far off.
@@ -188,10 +214,13 @@ fn median(times: &[Time], of: impl Fn(&Time) -> f64) -> f64 {
     sorted(times, of)[times.len() / 2]
 }
 
-fn nanoseconds<T>(of: impl FnOnce() -> T) -> f64 {
+/// Of one call, where so many are made.
+fn nanoseconds<T>(calls: usize, mut call: impl FnMut() -> T) -> f64 {
     let from = Instant::now();
-    black_box(of());
-    from.elapsed().as_nanos() as f64
+    for _ in 0..calls {
+        black_box(call());
+    }
+    from.elapsed().as_nanos() as f64 / calls as f64
 }
 
 /// A run of one case: the median of its rounds.
@@ -218,29 +247,95 @@ fn line(name: &str, of: impl Fn() -> Time) {
     );
 }
 
-/// What happens in the block that is timed.
+/// What goes on in the block that is timed.
 #[derive(Clone, Copy)]
 enum During {
     Rest,
     Gain,
     Swap,
+    Pause,
+    /// A loop of so many frames.
+    Loop(u64),
 }
 
 /// A case of one block: so many frames, with so many voices and commands that wait.
-struct Block {
-    name: String,
+#[derive(Clone, Copy)]
+struct Case {
     frames: usize,
     voices: usize,
+    /// Each voice has a long clip of its own, which is read for the first time.
+    own: bool,
     waiting: usize,
     during: During,
 }
 
-impl Block {
+const REST: Case = Case {
+    frames: 512,
+    voices: 0,
+    own: false,
+    waiting: 0,
+    during: During::Rest,
+};
+
+fn cases() -> Vec<Case> {
+    let few = |case| [0, 1, 16].map(|voices| Case { voices, ..case });
+    let mut cases = Vec::new();
+    cases.extend([0, 1, 2, 4, 8, 16].map(|voices| Case { voices, ..REST }));
+    for voices in [4, 8, 16] {
+        let own = true;
+        cases.push(Case {
+            voices,
+            own,
+            ..REST
+        });
+    }
+    for during in [During::Gain, During::Swap, During::Pause] {
+        cases.extend(few(Case { during, ..REST }));
+    }
+    for frames in [1, 16, 64, 4_096] {
+        cases.extend(few(Case { frames, ..REST }));
+    }
+    for during in [2, 16, 64, 256].map(During::Loop) {
+        cases.extend(few(Case { during, ..REST }));
+    }
+    for waiting in [64, 512, 4_095] {
+        cases.extend(few(Case { waiting, ..REST }));
+    }
+    cases
+}
+
+impl Case {
+    fn name(&self) -> String {
+        let voices = match self.voices {
+            1 => "1 voice".to_string(),
+            more if self.own => format!("{more} voices of {more} clips"),
+            more => format!("{more} voices"),
+        };
+        let during = match self.during {
+            During::Rest if self.waiting > 0 => format!("{} commands waiting", self.waiting),
+            During::Rest => "at rest".to_string(),
+            During::Gain => "during a gain ride".to_string(),
+            During::Swap => "during a swap".to_string(),
+            During::Pause => "paused".to_string(),
+            During::Loop(frames) => format!("a loop of {frames} frames"),
+        };
+        match self.frames {
+            1 => format!("1 frame, {voices}, {during}"),
+            frames => format!("{frames} frames, {voices}, {during}"),
+        }
+    }
+
     fn scene<'a>(&self, stores: &'a mut Stores) -> Scene<'a> {
-        let mut both = Both::playing(stores);
-        both.wait(self.waiting);
+        let bells = if self.own { self.voices } else { 1 };
+        let mut both = Both::playing(stores, bells);
         both.ring(self.voices);
+        match self.during {
+            During::Pause => both.submit(Command::Pause, Submission::Pause, 0),
+            During::Loop(frames) => both.go_round(frames),
+            _ => {}
+        }
         both.block(&mut [0.0; 256]);
+        both.wait(self.waiting);
         Scene {
             both,
             during: self.during,
@@ -252,7 +347,12 @@ impl Block {
     fn time(&self) -> Time {
         let mut stores = Stores::new();
         let mut scene = self.scene(&mut stores);
-        run(ROUNDS, || scene.round())
+        if self.own {
+            forget();
+        }
+        let time = run(ROUNDS, || scene.round());
+        scene.both.block(&mut scene.out);
+        time
     }
 
     /// The same up to one call, which is made or left out: a counter of instructions tells the two runs apart.
@@ -282,12 +382,12 @@ struct Scene<'a> {
 impl Scene<'_> {
     fn prepare(&mut self) {
         match self.during {
-            During::Rest => return,
             During::Gain => {
                 self.louder = !self.louder;
                 self.both.gain(if self.louder { 1.5 } else { 0.5 }, 0);
             }
             During::Swap => self.both.swap(),
+            _ => return,
         }
         self.both.block(&mut [0.0; 2]);
     }
@@ -306,12 +406,17 @@ impl Scene<'_> {
         self.both.tono.fill(black_box(&mut self.out));
     }
 
+    /// Of short blocks there are as many as have 1,024 frames, lest the clock's own time counts.
     fn round(&mut self) -> Time {
         self.prepare();
+        let calls = match self.during {
+            During::Gain | During::Swap => 1,
+            _ => (2_048 / self.out.len()).max(1),
+        };
         Time {
-            ours: nanoseconds(|| self.ours()),
-            check: nanoseconds(|| self.check()),
-            tono: nanoseconds(|| self.tono()),
+            ours: nanoseconds(calls, || self.ours()),
+            check: nanoseconds(calls, || self.check()),
+            tono: nanoseconds(calls, || self.tono()),
         }
     }
 }
@@ -319,31 +424,27 @@ impl Scene<'_> {
 /// A submission into a queue of 4,095 or a little less: the last 64 places, one after the other.
 fn submission() -> Time {
     let mut stores = Stores::new();
-    let mut both = Both::playing(&mut stores);
+    let mut both = Both::playing(&mut stores, 0);
+    both.block(&mut [0.0; 2]);
     both.wait(QUEUE - 64);
-    let frames = || LATER / 2..LATER / 2 + 64;
-    let ours = nanoseconds(|| {
-        for frame in frames() {
-            let at = threshreed::At::Frame(ClockFrame(frame));
-            black_box(both.ours.submit(Command::Gain(1.0), at)).expect("the queue has room");
-        }
+    let mut frame = LATER / 2;
+    let ours = nanoseconds(64, || {
+        let at = threshreed::At::Frame(ClockFrame(frame));
+        frame += 1;
+        both.ours
+            .submit(Command::Gain(1.0), at)
+            .expect("the queue has room")
     });
-    let tono = nanoseconds(|| {
-        for frame in frames() {
-            black_box(both.tono.submit(Submission::Gain(1.0), At::Frame(frame)))
-                .expect("the queue has room");
-        }
+    let mut frame = LATER / 2;
+    let tono = nanoseconds(64, || {
+        let at = At::Frame(frame);
+        frame += 1;
+        both.tono
+            .submit(Submission::Gain(1.0), at)
+            .expect("the queue has room")
     });
-    let check = nanoseconds(|| {
-        for _ in frames() {
-            black_box(both.ours.block(&mut [])).expect("the block is made");
-        }
-    });
-    Time {
-        ours: ours / 64.0,
-        check: check / 64.0,
-        tono: tono / 64.0,
-    }
+    let check = nanoseconds(64, || both.ours.block(&mut []).expect("the block is made"));
+    Time { ours, check, tono }
 }
 
 /// A clip of a million frames: loaded here; rendered and queued as a stinger there, which is where tono copies one.
@@ -361,9 +462,9 @@ fn load() -> Time {
         };
         let mut loaded = None;
         let time = Time {
-            ours: nanoseconds(|| loaded = Some(ours.load_stinger(black_box(clip)))),
-            check: nanoseconds(|| ours.block(black_box(&mut []))),
-            tono: nanoseconds(|| {
+            ours: nanoseconds(1, || loaded = Some(ours.load_stinger(black_box(clip)))),
+            check: nanoseconds(1, || ours.block(black_box(&mut []))),
+            tono: nanoseconds(1, || {
                 tono.submit(Submission::Stinger(stinger.clone(), 1.0), At::Frame(LATER))
             }),
         };
@@ -373,67 +474,26 @@ fn load() -> Time {
     })
 }
 
-fn voiced(voices: usize) -> String {
-    match voices {
-        1 => "1 voice".to_string(),
-        more => format!("{more} voices"),
-    }
-}
-
-fn blocks() -> Vec<Block> {
-    let block = |name: String, frames, voices, waiting, during| Block {
-        name,
-        frames,
-        voices,
-        waiting,
-        during,
-    };
-    let mut blocks = Vec::new();
-    for (name, during) in [
-        ("at rest", During::Rest),
-        ("during a gain ride", During::Gain),
-        ("during a swap", During::Swap),
-    ] {
-        for voices in [0, 1, 16] {
-            let name = format!("a block of 512 frames, {}, {name}", voiced(voices));
-            blocks.push(block(name, 512, voices, 0, during));
-        }
-    }
-    for voices in [2, 4, 8] {
-        let name = format!("a block of 512 frames, {}, at rest", voiced(voices));
-        blocks.push(block(name, 512, voices, 0, During::Rest));
-    }
-    for frames in [1, 64, 4_096] {
-        let name = format!("a block of length {frames}, 1 voice, at rest");
-        blocks.push(block(name, frames, 1, 0, During::Rest));
-    }
-    for waiting in [64, 512, 4_095] {
-        let name = format!("a block of 512 frames, 1 voice, {waiting} commands waiting");
-        blocks.push(block(name, 512, 1, waiting, During::Rest));
-    }
-    blocks
-}
-
 fn main() {
     let words: Vec<String> = env::args().skip(1).collect();
     let words: Vec<&str> = words.iter().map(String::as_str).collect();
-    let blocks = blocks();
+    let cases = cases();
     match words[..] {
         [] => {
             println!(
                 "| case | ours, µs | its check, µs | tono, µs | ratio | ratio without the check |\n|---|---|---|---|---|---|"
             );
-            for block in &blocks {
-                line(&block.name, || block.time());
+            for case in &cases {
+                line(&case.name(), || case.time());
             }
             line("a submission into a queue of 4,095", || run(5, submission));
             line("a load of a million frames", load);
         }
-        ["blocks"] => blocks.iter().for_each(|block| println!("{}", block.name)),
+        ["blocks"] => cases.iter().for_each(|case| println!("{}", case.name())),
         [number, call] => {
-            let number: usize = number.parse().expect("a block has a number");
-            blocks[number].count(call);
+            let number: usize = number.parse().expect("a case has a number");
+            cases[number].count(call);
         }
-        _ => panic!("no word, `blocks`, or a block's number and a call"),
+        _ => panic!("no word, `blocks`, or a case's number and a call"),
     }
 }
