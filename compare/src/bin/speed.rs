@@ -406,12 +406,12 @@ impl Scene<'_> {
         self.both.tono.fill(black_box(&mut self.out));
     }
 
-    /// Of short blocks there are as many as have 1,024 frames, lest the clock's own time counts.
+    /// Of short blocks there are as many as have 512 frames, lest the clock's own time counts.
     fn round(&mut self) -> Time {
         self.prepare();
         let calls = match self.during {
             During::Gain | During::Swap => 1,
-            _ => (2_048 / self.out.len()).max(1),
+            _ => (1_024 / self.out.len()).max(1),
         };
         Time {
             ours: nanoseconds(calls, || self.ours()),
