@@ -56,7 +56,7 @@ Counted k = k .swaps + k .fired ≤ k .executed
 
 -- ---- one frame
 
-tail-on : (P : Handle → Ramp → Type 0) → ((h : Handle) (w : Ramp) → (tickOf w .ramp .remaining ≡ 0 → ⊥) → P h w → P h (tickOf w .ramp))
+pub tail-on : (P : Handle → Ramp → Type 0) → ((h : Handle) (w : Ramp) → (tickOf w .ramp .remaining ≡ 0 → ⊥) → P h w → P h (tickOf w .ramp))
     → (view : View) (t : Tail) → OfTail P t → OfTail P (tailOn view t)
 unfolding tailOn
 tail-on P keeps view Tail.None p = tt

@@ -32,6 +32,10 @@ sound g t v = record { master = g; fade = record { tail = t }; voices = v }
 
 -- ---- one frame
 
+-- a view of one recording
+abbrev pub only : Recording → View
+only r h = r
+
 -- b. If Playing, the song gives the pair at its cursor, past the clip +0.0; if not Playing, +0.0
 unfoldable pub playedOf : Recording → Moved → Pair
 playedOf song m = cond (m .playing) (pairAt song (placeOf (m .cursor))) silence

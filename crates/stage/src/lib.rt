@@ -11,7 +11,7 @@ ghost use Rattle.oneshot.specs.Pair.{pairAt};
 ghost use Rattle.oneshot.specs.Sounding.{LiesIn};
 ghost use Rattle.stage.specs.declared.Tail.the-variants.{None};
 ghost use Rattle.stage.specs.Playhead.{movedOf, playheadBy};
-ghost use Rattle.stage.specs.Sound.{playedOf, tailShare, fadedOf, renderedOf, clampOf, tailFrom, soundBy};
+ghost use Rattle.stage.specs.Sound.{only, playedOf, tailShare, fadedOf, renderedOf, clampOf, tailFrom, soundBy};
 ghost use Rattle.stage.specs.Counters.{countersBy};
 ghost use Rattle.stage.specs.Stage.{frameOf, executeOf};
 ghost use Rattle.stage.specs.Ready.{Fades, Sounding, FrameReady, Countable, ExecReady};
@@ -194,10 +194,10 @@ pub fn tail_share(settings: Settings, g: f32, p: Pair, w: f32) -> Pair
 
 impl Fade {
     /// Where there is a tail: w ticks, its share is added, the tail reads straight on. It leaves after the frame in which its
-    /// weight lands on 0.
-    pub fn step(self, settings: Settings, pool: &[f32], bank: Bank, g: f32, out: Pair) -> Faded
-        requires { ⌜ Fades (length (now pool)) bank (self .tail) ⌝ }
-        ensures { λ r. ⌜ r ≡ fadedOf settings (viewOf (now (pool .entry)) bank) g (self .tail) out ⌝ }
+    /// weight lands on 0. The clip is the tail's.
+    pub fn step_of(self, settings: Settings, pool: &[f32], clip: Clip, g: f32, out: Pair) -> Faded
+        requires { ⌜ LiesIn (length (now pool)) clip ⌝ }
+        ensures { λ r. ⌜ r ≡ fadedOf settings (only (recordingOf (now (pool .entry)) clip)) g (self .tail) out ⌝ }
     {
         let tail = self.tail;
         match tail {
@@ -206,7 +206,6 @@ impl Fade {
                 out: out,
             },
             Tail::Sounding(h, cursor, weight) => {
-                let clip = bank::clip_of(bank, h);
                 let t = weight.tick();
                 let next = t.ramp;
                 let share = tail_share(settings, g, read_at(pool, clip, cursor), t.value);
@@ -218,6 +217,24 @@ impl Fade {
                     },
                     out: out.plus(share),
                 }
+            }
+        }
+    }
+
+    /// The same, with the clip out of the bank.
+    pub fn step(self, settings: Settings, pool: &[f32], bank: Bank, g: f32, out: Pair) -> Faded
+        requires { ⌜ Fades (length (now pool)) bank (self .tail) ⌝ }
+        ensures { λ r. ⌜ r ≡ fadedOf settings (viewOf (now (pool .entry)) bank) g (self .tail) out ⌝ }
+    {
+        let tail = self.tail;
+        match tail {
+            Tail::None => Faded {
+                fade: self,
+                out: out,
+            },
+            Tail::Sounding(h, _, _) => {
+                let clip = bank::clip_of(bank, h);
+                self.step_of(settings, pool, clip, g, out)
             }
         }
     }
