@@ -15,9 +15,9 @@ use Rattle.laws.proofs.Samples.{samples-append, samples-length, take-two}
 use Rattle.timeline.specs.declared.QueueRecord.{QueueRecord}
 use Rattle.timeline.specs.Queue as queues
 use Rattle.bank.specs.Sample.{isPool}
-use Rattle.bank.specs.Recording.{View, viewOf}
-use Rattle.bank.proofs.Claims.{song-has, song-length}
+use Rattle.bank.specs.Recording.{viewOf}
 use Rattle.oneshot.specs.declared.Pair.{Pair}
+use Rattle.oneshot.specs.Sounding.{Each}
 use Rattle.stage.specs.declared.Stage.{Stage}
 use Rattle.stage.specs.Ready.{FrameReady}
 use Rattle.stage.specs.Machine.{Told, machineOf, outputOf}
@@ -25,12 +25,9 @@ use Rattle.stage.proofs.Clock.{clocked}
 use Rattle.session.specs.declared.Session.{Session}
 use Rattle.session.specs.Session.{withStage}
 use Rattle.session.proofs.Ready.{frame-ready}
-use Rattle.session.proofs.Parts.{parts}
-use Rattle.passes.specs.Over.{over}
-use Rattle.runs.specs.Run.{stageBy, Calm, outs, pairsOf}
-use Rattle.runs.specs.Parts.{RunReady}
-use Rattle.runs.proofs.Parts.{bank-ends}
-use Rattle.runs.proofs.Runs.{calm-run, outs-output}
+use Rattle.session.proofs.Kept.{song-fits}
+use Rattle.runs.specs.Voices.{Lasts}
+use Rattle.runs.specs.Frames.{framesOf, RunReady}
 use Rattle.block.proofs.Filling.{part-take, part-length}
 use Rattle.block.specs.Fill.{stretchOf, Stretchable}
 use Rattle.block.proofs.Kept.{Standing, framed}
@@ -115,14 +112,6 @@ module _ (s : Session) (pool : List Float) where
                 rw (drop-set-lt, drop-set-lt) (h .rest);
           }
 
-      -- the song's position is far below 2^64
-      position-low : x .playhead .transport .position .0 ≤ 2 ^ 40
-      position-low =
-          let y : Session = withStage s x (s .queued) in
-          let p = parts y (h .queue) (h .capture) (h .stands .formed) in
-          let l = song-length (s .bank) (s .settings .pool) (s .settings .rate) (x .playhead .song) (p .bank) (song-has (s .bank) (s .settings .rate) (x .playhead .song) (p .song)) in
-          omega (arith, p .position, l .1)
-
       run-stands : (j : ℕ) → x .clock .0 + j ≤ 2 ^ 62 → Standing s (h .queue) (h .capture) (s .queued) (stand (run machine j (stand x []) .at .core) (queues.queue (h .queue) (s .queued)))
       run-stands j l =
           run-keeps machine (λ y. y .clock .0 ≤ 2 ^ 62 → Standing s (h .queue) (h .capture) (s .queued) (stand y (queues.queue (h .queue) (s .queued))))
@@ -131,30 +120,25 @@ module _ (s : Session) (pool : List Float) where
           framed s (h .queue) (h .capture) pool (s .queued) y (queues.queue (h .queue) (s .queued)) (p (omega arith)) (omega arith))
           j x (λ m. h .stands) (omega (arith, run-clock machine (clocked (s .settings) (viewOf pool (s .bank))) j (stand x [])))
 
-      module _ (j : ℕ) (most : i + j ≤ n) (calm : Calm (viewOf pool (s .bank)) j x) where
-        -- a run can be made, into the later part of the output
-        pub run-asked : RunReady pool (s .bank) j (length (take (length o - i * 2) (drop (i * 2) o))) x
-        run-asked =
+      module _ (j : ℕ) (most : i + j ≤ n) where
+        -- frames in which no voice ends can be made at once, into the later part of the output
+        pub run-asked : Each (Lasts (viewOf pool (s .bank)) j) (x .sound .voices) → RunReady pool (s .bank) j (length (take (length o - i * 2) (drop (i * 2) o))) x
+        run-asked lasts =
             record {
               ready = stretch-ready;
-              calm = calm;
+              fits = song-fits (withStage s x (s .queued)) (h .queue) (h .capture) (h .stands .formed);
+              voices = lasts;
               room = simp (length-take, length-drop) (omega (arith, h .same, h .room));
               clock = omega (arith, h .clock);
-              position = omega (arith, position-low, h .clock);
             }
 
-        -- a turn makes it
-        pub stretch-run : (y : Stage) (ys : List Float) → y ≡ stageBy (viewOf pool (s .bank)) j x
-            → ys ≡ over (outs (viewOf pool (s .bank)) x) 0 (j * 2) (take (length o - i * 2) (drop (i * 2) o))
+        -- a turn makes them
+        pub stretch-run : (y : Stage) (ys : List Float) → y ≡ framesOf (s .settings) (viewOf pool (s .bank)) j x .at .core
+            → ys ≡ outputOf (framesOf (s .settings) (viewOf pool (s .bank)) j x .made) ++ drop (j * 2) (take (length o - i * 2) (drop (i * 2) o))
             → length ys ≡ length (take (length o - i * 2) (drop (i * 2) o))
             → Stretching o₀ n (take (i * 2) o ++ (ys ++ drop (length o - i * 2) (drop (i * 2) o))) y (i + j)
-        stretch-run y ys ey eo ly =
-            let view : View = viewOf pool (s .bank) in
-            let r : run machine j (stand x []) ≡ ran (stand (stageBy view j x) []) (pairsOf view x j) [] = calm-run view (bank-ends pool (s .bank)) (s .settings) x j calm in
-            let core : y ≡ run machine j (stand x []) .at .core = ey ∙ sym (ap (λ t. t .at .core) r) in
-            let part : List Float = take (length o - i * 2) (drop (i * 2) o) in
-            let room : j * 2 ≤ length part = simp (length-take, length-drop) (omega (arith, h .same, h .room)) in
-            let out : ys ≡ outputOf (run machine j (stand x []) .made) ++ drop (j * 2) part = eo ∙ outs-output view x part j room ∙ sym (ap (λ t. outputOf (t .made) ++ drop (j * 2) part) r) in
+        unfolding framesOf
+        stretch-run y ys core out ly =
             let two : (i + j) * 2 ≡ i * 2 + j * 2 = omega arith in
             let clock = run-clock machine (clocked (s .settings) (viewOf pool (s .bank))) j (stand x []) in
             let long : length (outputOf (run machine j (stand x []) .made)) ≡ j * 2 = samples-length _ _ (run machine j (stand x []) .made) ∙ ap (λ (m : ℕ). m * 2) (run-length machine j (stand x [])) in

@@ -3,11 +3,10 @@ use Prim.Native.Nat.{ℕ, zero, suc, _+_, _*_, _-_, _^_, _≤_, _<_, min}
 use mathlib.Core.Path.{_≡_}
 use mathlib.Core.Bool.{Bool, true, false}
 use mathlib.Core.List.{List, []}
-use lib.Dec.{leb, ltb}
+use lib.Dec.{leb}
 use lib.ListN.{length}
 use lib.Ieee.{Float}
 use Rattle.laws.specs.Block.{Ran, stand, run}
-use Rattle.transport.specs.declared.LoopRange.{LoopRange}
 use Rattle.timeline.specs.declared.QueueRecord.{QueueRecord}
 use Rattle.timeline.specs.Record.{readOf}
 use Rattle.timeline.specs.Store.{rowAt}
@@ -34,11 +33,6 @@ leadOf q (suc n) t left = min (rowAt q n .at - t) left
 -- the first queued command is executed and leaves the queue
 abbrev pub firstDone : Session → List ℕ → Session
 firstDone s q = withStage s (executeOf (s .settings) (extentNow s) (readOf (rowAt q (s .queued - 1))) (s .stage)) (s .queued - 1)
-
--- a loop of fewer than 4 frames
-abbrev pub isShort : LoopRange → Bool
-isShort LoopRange.Off = false
-isShort (LoopRange.Range s e) = ltb (e .0 - s .0) 4
 
 -- n frames, at which no command is due
 unfoldable pub stretchOf : Session → List Float → ℕ → Ran Stage QueueRecord Pair Told

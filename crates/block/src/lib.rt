@@ -12,14 +12,13 @@ ghost use Rattle.session.specs.declared.Answered.{Answered};
 ghost use Rattle.session.specs.Session.{withStage};
 ghost use Rattle.session.specs.Answer.{answered};
 ghost use Rattle.block.specs.Block.{weighBlock, ranOf, blockDone, blockOf};
-ghost use Rattle.block.specs.Fill.{isShort, firstDue, leadOf, firstDone, stretchOf, Going, Stretchable, Fillable};
+ghost use Rattle.block.specs.Fill.{firstDue, leadOf, firstDone, stretchOf, Going, Stretchable, Fillable};
 use session::Answer;
 use session::Answered;
 use session::CLOCK_END;
 use session::Refusal;
 use session::Session;
 use session::Weighed;
-use transport::LoopRange;
 
 /// 1, 2, 3, then block 4.
 pub fn weigh_block(s: Session, queue: &[u64], capture: &[u64], pool: &[f32], out: &[f32]) -> Weighed
@@ -85,8 +84,8 @@ fn execute_first(s: Session, queue: &[u64]) -> Session
     s
 }
 
-/// So many frames, one by one.
-fn by_frame(s: Session, pool: &[f32], out: &mut [f32], frames: usize) -> Session
+/// So many frames, into the front of out: at once as long as no voice ends, and a frame in which one does by itself.
+fn stretch(s: Session, pool: &[f32], out: &mut [f32], frames: usize) -> Session
     requires { ⌜ Stretchable s (now pool) frames (length (now out)) ⌝ }
     ensures { λ r. ⌜ (r ≡ withStage s (stretchOf s (now (pool .entry)) frames .at .core) (s .queued)) × (now (out .exit) ≡ outputOf (stretchOf s (now (pool .entry)) frames .made) ++ drop (frames * 2) (now (out .entry))) ⌝ }
 {
@@ -95,30 +94,9 @@ fn by_frame(s: Session, pool: &[f32], out: &mut [f32], frames: usize) -> Session
     let mut stage = s.stage;
     let mut done = 0;
     while done < frames {
-        let made = stage.frame(settings, pool, bank);
-        let pair = made.out;
-        let at = done * 2;
-        out[at] = pair.left;
-        out[at + 1] = pair.right;
-        stage = made.stage;
-        done = done + 1;
-    }
-    let mut s = s;
-    s.stage = stage;
-    s
-}
-
-/// So many frames, run by run, and where something is decided anew one by one.
-fn by_run(s: Session, pool: &[f32], out: &mut [f32], frames: usize) -> Session
-    requires { ⌜ Stretchable s (now pool) frames (length (now out)) ⌝ }
-    ensures { λ r. ⌜ (r ≡ withStage s (stretchOf s (now (pool .entry)) frames .at .core) (s .queued)) × (now (out .exit) ≡ outputOf (stretchOf s (now (pool .entry)) frames .made) ++ drop (frames * 2) (now (out .entry))) ⌝ }
-{
-    let settings = s.settings;
-    let bank = s.bank;
-    let mut stage = s.stage;
-    let mut done = 0;
-    while done < frames {
-        let ahead = runs::ahead(stage, pool, bank, frames - done);
+        let sound = stage.sound;
+        let voices = sound.voices;
+        let ahead = runs::voices_ahead(voices, pool, bank, frames - done);
         let at = done * 2;
         if ahead == 0 {
             let made = stage.frame(settings, pool, bank);
@@ -128,41 +106,13 @@ fn by_run(s: Session, pool: &[f32], out: &mut [f32], frames: usize) -> Session
             stage = made.stage;
             done = done + 1;
         } else {
-            stage = runs::run(stage, pool, bank, &mut out[at..], ahead);
+            stage = runs::run(stage, settings, pool, bank, &mut out[at..], ahead);
             done = done + ahead;
         }
     }
     let mut s = s;
     s.stage = stage;
     s
-}
-
-/// A loop of fewer than 4 frames: its runs cost more than its frames.
-fn is_short(looped: LoopRange) -> bool
-    ensures { λ r. ⌜ r ≡ isShort looped ⌝ }
-{
-    match looped {
-        LoopRange::Off => false,
-        LoopRange::Range(start, end) => {
-            if start.0 < end.0 {
-                end.0 - start.0 < 4
-            } else {
-                true
-            }
-        }
-    }
-}
-
-/// So many frames, into the front of out.
-fn stretch(s: Session, pool: &[f32], out: &mut [f32], frames: usize) -> Session
-    requires { ⌜ Stretchable s (now pool) frames (length (now out)) ⌝ }
-    ensures { λ r. ⌜ (r ≡ withStage s (stretchOf s (now (pool .entry)) frames .at .core) (s .queued)) × (now (out .exit) ≡ outputOf (stretchOf s (now (pool .entry)) frames .made) ++ drop (frames * 2) (now (out .entry))) ⌝ }
-{
-    let looped = s.loop_range();
-    if is_short(looped) {
-        return by_frame(s, pool, out, frames);
-    }
-    by_run(s, pool, out, frames)
 }
 
 /// While frames remain, the first queued command is executed if it is due, else frames are made up to the next one;

@@ -1,11 +1,14 @@
 pub mod Voices
 pub mod Song
 pub mod Tail
+pub mod Cores
+pub mod Calm
+pub mod Onward
 pub mod Frames
 pub mod Runs
+pub mod Clips
 pub mod Sums
 pub mod Table
 pub mod Looking
 pub mod Parts
-pub mod Running
 pub mod Fewer

@@ -2,34 +2,29 @@
 use mathlib.Core.Path.{_≡_, refl, sym, ap, _∙_}
 use mathlib.Core.Bool.{Bool, true, false, cond, false≢true}
 use mathlib.Core.List.{List}
-use Prim.Native.Nat.{ℕ, _+_, _*_, _/_, _≤_, _<_}
+use Prim.Native.Nat.{ℕ, _+_, _*_, _≤_, _<_}
 use native.Mathlib.Omega.{arith}
 use lib.Dec.{ltb}
 use lib.ListN.{length, getD}
-use lib.Ieee.{Float, nan, binary32, add, mul}
+use lib.Ieee.{Float, nan}
 use borrow.Author.Tests.{ltb-true}
 use Rattle.ramp.specs.Number.{zero32}
-use Rattle.ramp.specs.declared.Ramp.{Ramp}
 use Rattle.transport.specs.declared.Transport.{Transport}
 use Rattle.transport.specs.Transport.{isPlaying}
 use Rattle.bank.specs.declared.Clip.{Clip}
-use Rattle.bank.specs.declared.Bank.{Bank}
-use Rattle.bank.specs.Slots.{clipOf}
-use Rattle.bank.specs.Recording.{recordingOf, viewOf}
+use Rattle.bank.specs.Recording.{recordingOf}
 use Rattle.oneshot.specs.Heard.{heardOf, sampleAt}
 use Rattle.oneshot.specs.Sounding.{LiesIn}
 use Rattle.oneshot.proofs.Places.{place-inside, place-past}
-use Rattle.passes.specs.declared.Part.{Part}
 use Rattle.passes.specs.Adds.{shareOf, Reads}
-use Rattle.runs.specs.Run.{Inside, clipShare, Ends}
-use Rattle.runs.specs.Parts.{silent, partOf, songPart}
-
--- a bank's clips are silent past their frames
-pub bank-ends : (pool : List Float) (b : Bank) → Ends (viewOf pool b)
-unfolding viewOf
-bank-ends pool b h k l = place-past pool (clipOf b h) k l
+use Rattle.runs.specs.Run.{Inside, silent, partOf, songPart}
+use Rattle.runs.proofs.Song.{Ends, clipShare, songShare}
 
 module _ (pool : List Float) (x : Clip) where
+  -- a clip is silent past its frames
+  pub clip-ends : Ends (recordingOf pool x)
+  clip-ends k l = place-past pool x k l
+
   pub part-share : (c n k : ℕ) → Inside (x .frames) c n → k < n * 2 → shareOf pool (partOf x c) k ≡ clipShare (recordingOf pool x) c k
   unfolding shareOf
   part-share c n k i h = go (ltb c (x .frames)) refl
@@ -50,7 +45,7 @@ module _ (pool : List Float) (x : Clip) where
       go false e o = absurd (false≢true o)
 
   pub song-share : (t : Transport) (n k : ℕ) → (isPlaying (t .state) ≡ true → Inside (x .frames) (t .cursor .0) n) → k < n * 2
-      → shareOf pool (songPart x t) k ≡ cond (isPlaying (t .state)) (clipShare (recordingOf pool x) (t .cursor .0) k) zero32
+      → shareOf pool (songPart x t) k ≡ songShare (recordingOf pool x) t k
   unfolding shareOf
   song-share t n k i h = go (isPlaying (t .state)) refl
     where

@@ -14,8 +14,14 @@ use Rattle.transport.specs.declared.Transport.{Transport}
 use Rattle.transport.specs.declared.Stepped.{Stepped}
 use Rattle.transport.specs.Transport.{isPlaying, transport, wrapOf, cursorOn, advanceOf, stepOf}
 use Rattle.bank.specs.Recording.{Recording}
+use Rattle.counts.specs.Counts.{placeOf}
 use Rattle.oneshot.specs.Heard.{sampleAt}
-use Rattle.runs.specs.Run.{cursorBy, transportBy, Inside, Steady, clipShare}
+use Rattle.oneshot.specs.Pair.{pair, silence, pairAt}
+use Rattle.stage.specs.declared.Settings.{Settings}
+use Rattle.stage.specs.declared.Playhead.{Playhead}
+use Rattle.stage.specs.Playhead.{playhead, movedOf}
+use Rattle.stage.specs.Sound.{playedOf}
+use Rattle.runs.specs.Run.{cursorBy, transportBy, Inside, Steady}
 
 -- a cursor goes on by one
 pub cursor-frame : (frames c n j : ℕ) → Inside frames c n → j < n → cursorOn frames (cursorBy frames c j) ≡ cursorBy frames c (j + 1)
@@ -30,15 +36,23 @@ cursor-frame frames c n j h l = go (ltb c frames) refl
         rw (q, r) refl
     go false e = rw e refl
 
+-- past its frames a recording is silent
+abbrev pub Ends : Recording → Type 0
+Ends x = (k : ℕ) → x .frames * 2 ≤ k → sampleAt x k ≡ zero32
+
+-- place k of a clip from a cursor on; past the clip +0.0
+abbrev pub clipShare : Recording → ℕ → ℕ → Float
+clipShare x c k = cond (ltb c (x .frames)) (sampleAt x (c * 2 + k)) zero32
+
 -- what it reads there is the clip's share
-pub cursor-reads : (x : Recording) → ((k : ℕ) → x .frames * 2 ≤ k → sampleAt x k ≡ zero32) → (c j i : ℕ) → sampleAt x (cursorBy (x .frames) c j * 2 + i) ≡ clipShare x c (j * 2 + i)
+pub cursor-reads : (x : Recording) → Ends x → (c j i : ℕ) → sampleAt x (cursorBy (x .frames) c j * 2 + i) ≡ clipShare x c (j * 2 + i)
 cursor-reads x ends c j i = go (ltb c (x .frames)) refl
   where
     go : (b : Bool) → ltb c (x .frames) ≡ b → sampleAt x (cond b (c + j) c * 2 + i) ≡ cond b (sampleAt x (c * 2 + (j * 2 + i))) zero32
     go true e = let q : (c + j) * 2 + i ≡ c * 2 + (j * 2 + i) = omega arith in ap (sampleAt x) q
     go false e = let q : x .frames ≤ c = ltb-false c (x .frames) e in ends (c * 2 + i) (omega arith)
 
-pub cursor-left : (x : Recording) → ((k : ℕ) → x .frames * 2 ≤ k → sampleAt x k ≡ zero32) → (c j : ℕ) → sampleAt x (cursorBy (x .frames) c j * 2) ≡ clipShare x c (j * 2)
+pub cursor-left : (x : Recording) → Ends x → (c j : ℕ) → sampleAt x (cursorBy (x .frames) c j * 2) ≡ clipShare x c (j * 2)
 cursor-left x ends c j =
     let a : cursorBy (x .frames) c j * 2 + 0 ≡ cursorBy (x .frames) c j * 2 = omega arith in
     let b : j * 2 + 0 ≡ j * 2 = omega arith in
@@ -71,3 +85,26 @@ step-parts TransportState.Playing p c (LoopRange.Range s e) frames extent n j h 
 
 pub step-frame : (t : Transport) (frames extent n j : ℕ) → Steady frames extent n t → j < n → stepOf frames extent (transportBy frames j t) ≡ stepped frames j t
 step-frame t frames extent n j h lt = step-parts (t .state) (t .position .0) (t .cursor .0) (t .looped) frames extent n j h lt
+
+-- the song, if it plays
+abbrev pub songShare : Recording → Transport → ℕ → Float
+songShare x t k = cond (isPlaying (t .state)) (clipShare x (t .cursor .0) k) zero32
+
+-- the playhead's step
+pub moved-frame : (x : Settings) (p : Playhead) (frames extent n j : ℕ) → Steady frames extent n (p .transport) → j < n
+    → movedOf x frames extent (playhead (transportBy frames j (p .transport)) (p .song))
+    ≡ record { playhead = playhead (transportBy frames (j + 1) (p .transport)) (p .song); playing = isPlaying (p .transport .state); cursor = readAt frames j (p .transport) }
+unfolding movedOf
+moved-frame x p frames extent n j h lt = rw (step-frame (p .transport) frames extent n j h lt) refl
+
+-- and what it gives
+pub played-frame : (r : Recording) → Ends r → (q : Playhead) (t : Transport) (j : ℕ)
+    → playedOf r (record { playhead = q; playing = isPlaying (t .state); cursor = readAt (r .frames) j t }) ≡ pair (songShare r t (j * 2)) (songShare r t (j * 2 + 1))
+unfolding playedOf
+played-frame r ends q t j = go (isPlaying (t .state))
+  where
+    go : (b : Bool)
+        → cond b (pairAt r (placeOf (cond b (record { 0 = cursorBy (r .frames) (t .cursor .0) j }) (t .cursor)))) silence
+        ≡ pair (cond b (clipShare r (t .cursor .0) (j * 2)) zero32) (cond b (clipShare r (t .cursor .0) (j * 2 + 1)) zero32)
+    go true = rw (cursor-left r ends (t .cursor .0) j, cursor-reads r ends (t .cursor .0) j 1) refl
+    go false = refl

@@ -1,3 +1,4 @@
 pub mod Voices
+pub mod Core
 pub mod Run
-pub mod Parts
+pub mod Frames

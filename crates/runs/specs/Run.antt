@@ -1,28 +1,24 @@
--- A run: frames in which nothing is decided anew. Where it leaves the stage, and what stands at each place of its output. Definitions only.
-use Prim.Native.Nat.{ℕ, zero, suc, _+_, _*_, _/_, _≤_, _<_}
+-- A run of a core: frames in which nothing is decided anew. Where it leads, and what it adds at each place. Definitions only.
+use Prim.Native.Nat.{ℕ, _+_, _*_, _≤_, _<_, _^_}
 use mathlib.Core.Path.{_≡_}
-use mathlib.Core.Bool.{true, cond}
-use mathlib.Core.List.{List, [], _∷_, _++_}
+use mathlib.Core.Bool.{true, false, cond}
+use mathlib.Core.List.{List}
 use lib.Dec.{ltb}
 use lib.ListN.{length}
-use lib.Ieee.{Float, binary32, add, mul}
-use Rattle.ramp.specs.Number.{zero32}
+use lib.Ieee.{Float}
+use Rattle.counts.specs.declared.Handle.{Handle}
+use Rattle.ramp.specs.declared.Ramp.{Ramp}
 use Rattle.transport.specs.declared.Transport.{Transport}
 use Rattle.transport.specs.declared.LoopRange.{LoopRange}
 use Rattle.transport.specs.Transport.{isPlaying, movedTo}
-use Rattle.bank.specs.Recording.{Recording, View}
-use Rattle.oneshot.specs.declared.Pair.{Pair}
-use Rattle.oneshot.specs.Heard.{sampleAt}
-use Rattle.oneshot.specs.Pair.{pair}
-use Rattle.oneshot.specs.Mix.{sounding}
-use Rattle.oneshot.specs.Sounding.{Each}
-use Rattle.stage.specs.declared.Playhead.{Playhead}
+use Rattle.bank.specs.declared.Clip.{Clip}
+use Rattle.bank.specs.Slots.{extentOf}
+use Rattle.oneshot.specs.Sounding.{LiesIn}
 use Rattle.stage.specs.declared.Tail.{Tail}
-use Rattle.stage.specs.declared.Stage.{Stage}
 use Rattle.stage.specs.Playhead.{playhead}
-use Rattle.stage.specs.Sound.{sound}
-use Rattle.passes.specs.Adds.{ticksOf, gainAt}
-use Rattle.runs.specs.Voices.{voicesBy, Lasts, sumFrom}
+use Rattle.passes.specs.declared.Part.{Part}
+use Rattle.passes.specs.Adds.{ticksOf, adds, bothAdds, Reads}
+use Rattle.runs.specs.declared.Core.{Core}
 
 -- ---- where n frames lead
 
@@ -33,20 +29,17 @@ cursorBy frames c n = cond (ltb c frames) (c + n) c
 abbrev pub transportBy : ℕ → ℕ → Transport → Transport
 transportBy frames n t = cond (isPlaying (t .state)) (movedTo t (t .position .0 + n) (cursorBy frames (t .cursor .0) n)) t
 
-abbrev pub playheadOn : View → ℕ → Playhead → Playhead
-playheadOn view n p = playhead (transportBy (view (p .song) .frames) n (p .transport)) (p .song)
+abbrev pub tailBy : ℕ → ℕ → Tail → Tail
+tailBy frames n Tail.None = Tail.None
+tailBy frames n (Tail.Sounding h c w) = Tail.Sounding h (record { 0 = cursorBy frames (c .0) n }) (ticksOf n w)
 
-abbrev pub tailBy : View → ℕ → Tail → Tail
-tailBy view n Tail.None = Tail.None
-tailBy view n (Tail.Sounding h c w) = Tail.Sounding h (record { 0 = cursorBy (view h .frames) (c .0) n }) (ticksOf n w)
-
-unfoldable pub stageBy : View → ℕ → Stage → Stage
-stageBy view n s =
+-- where the song has so many frames, and the tail's clip
+abbrev pub coreBy : ℕ → ℕ → ℕ → Core → Core
+coreBy song tail n c =
     record {
-      clock = record { 0 = s .clock .0 + n };
-      playhead = playheadOn view n (s .playhead);
-      sound = sound (ticksOf n (s .sound .master)) (tailBy view n (s .sound .fade .tail)) (voicesBy n (s .sound .voices));
-      counters = s .counters;
+      playhead = playhead (transportBy song n (c .playhead .transport)) (c .playhead .song);
+      master = ticksOf n (c .master);
+      fade = record { tail = tailBy tail n (c .fade .tail) };
     }
 
 -- ---- that nothing is decided anew in them
@@ -60,57 +53,48 @@ endOf extent (LoopRange.Range s e) = e .0
 abbrev pub Inside : ℕ → ℕ → ℕ → Type 0
 Inside frames c n = c < frames → c + n ≤ frames
 
--- a transport that plays neither wraps nor stops
+-- a transport that plays neither wraps nor stops, and its position stays a 64-bit number
 pub record Steady (frames extent n : ℕ) (t : Transport) : Type 0 where
   pub end : isPlaying (t .state) ≡ true → t .position .0 + n < endOf extent (t .looped)
+  pub low : isPlaying (t .state) ≡ true → t .position .0 + n < 2 ^ 64
   pub inside : isPlaying (t .state) ≡ true → Inside frames (t .cursor .0) n
 
 -- a tail's weight does not land
-abbrev pub Fading : View → ℕ → Tail → Type 0
-Fading view n Tail.None = Unit {0}
-Fading view n (Tail.Sounding h c w) = (n < w .remaining) × Inside (view h .frames) (c .0) n
+abbrev pub Fading : ℕ → ℕ → Tail → Type 0
+Fading frames n Tail.None = Unit {0}
+Fading frames n (Tail.Sounding h c w) = (n < w .remaining) × Inside frames (c .0) n
 
-pub record Calm (view : View) (n : ℕ) (s : Stage) : Type 0 where
-  pub song : Steady (view (s .playhead .song) .frames) (view (s .playhead .song) .extent) n (s .playhead .transport)
-  pub tail : Fading view n (s .sound .fade .tail)
-  pub voices : Each (Lasts view n) (s .sound .voices)
-  pub places : s .sound .voices .count ≤ length (s .sound .voices .table)
+-- where the song's clip is x, and the tail's y
+pub record Calm (x y : Clip) (n : ℕ) (c : Core) : Type 0 where
+  pub song : Steady (x .frames) (extentOf (x .kind)) n (c .playhead .transport)
+  pub tail : Fading (y .frames) n (c .fade .tail)
 
--- ---- what stands at place k of the output
+-- ---- which part of the pool they read, and what they add
 
--- a clip from a cursor on; past the clip +0.0
-abbrev pub clipShare : Recording → ℕ → ℕ → Float
-clipShare x c k = cond (ltb c (x .frames)) (sampleAt x (c * 2 + k)) zero32
+-- none
+abbrev pub silent : Part
+silent = record { on = false; at = 0 }
+
+-- a clip from a cursor on; past the clip silence
+abbrev pub partOf : Clip → ℕ → Part
+partOf x c = cond (ltb c (x .frames)) (record { on = true; at = (x .start + c) * 2 }) silent
 
 -- the song, if it plays
-abbrev pub songShare : View → Playhead → ℕ → Float
-songShare view p k = cond (isPlaying (p .transport .state)) (clipShare (view (p .song)) (p .transport .cursor .0) k) zero32
+abbrev pub songPart : Clip → Transport → Part
+songPart x t = cond (isPlaying (t .state)) (partOf x (t .cursor .0)) silent
 
--- plus the tail × its weight, where there is a tail
-abbrev pub tailAdds : View → Tail → ℕ → Float → Float
-tailAdds view Tail.None k x = x
-tailAdds view (Tail.Sounding h c w) k x = add binary32 x (mul binary32 (clipShare (view h) (c .0) k) (gainAt w (k / 2)))
+-- song and tail over the sums, where the tail's clip is x
+abbrev pub overAdds : List Float → Part → Clip → Ramp → Tail → ℕ → Float → Float
+overAdds pool s x g Tail.None = adds pool s g
+overAdds pool s x g (Tail.Sounding h c w) = bothAdds pool s (partOf x (c .0)) g w
 
--- song × g, plus the tail's share, plus the stinger sum
-unfoldable pub outAt : View → Stage → ℕ → Float
-outAt view s k =
-    add binary32
-    (tailAdds view (s .sound .fade .tail) k (mul binary32 (songShare view (s .playhead) k) (gainAt (s .sound .master) (k / 2))))
-    (sumFrom view (sounding (s .sound .voices)) k zero32)
+pub record OverReady (pool : List Float) (s : Part) (x : Clip) (n out : ℕ) (t : Tail) : Type 0 where
+  pub room : n * 2 ≤ out
+  pub song : Reads (length pool) s (n * 2)
+  pub clip : LiesIn (length pool) x
+  pub tail : Fading (x .frames) n t
 
--- as a rule of a pass
-abbrev pub outs : View → Stage → ℕ → Float → Float
-outs view s k x = outAt view s k
-
--- the frame of places 2j and 2j + 1
-abbrev pub pairOf : View → Stage → ℕ → Pair
-pairOf view s j = pair (outAt view s (j * 2)) (outAt view s (j * 2 + 1))
-
--- the frames of a run, in order
-abbrev pub pairsOf : View → Stage → ℕ → List Pair
-pairsOf view s zero = []
-pairsOf view s (suc n) = pairsOf view s n ++ (pairOf view s n ∷ [])
-
--- past its frames a recording is silent
-abbrev pub Ends : View → Type 0
-Ends view = (h : _) (k : ℕ) → view h .frames * 2 ≤ k → sampleAt (view h) k ≡ zero32
+-- the slot of the tail's clip; without a tail the song's
+abbrev pub slotOf : Tail → Handle → ℕ
+slotOf Tail.None h = h .slot
+slotOf (Tail.Sounding k c w) h = k .slot

@@ -1,24 +1,28 @@
-//! Runs of frames: as many as there are in which nothing is decided anew.
+//! Runs of frames: as many as there are in which no voice ends, and of their song, master and tail as many as there are in
+//! which nothing is decided anew.
 ghost use mathlib.Core.Path.{_≡_};
 ghost use Prim.Native.Nat.{_+_, _*_, _≤_, _<_};
-ghost use lib.ListN.{length};
+ghost use mathlib.Core.List.{_++_};
+ghost use lib.ListN.{length, drop};
 ghost use mathlib.Core.Bool.{true};
 ghost use Rattle.transport.specs.Transport.{isPlaying};
-ghost use Rattle.stage.specs.Ready.{FrameReady};
-ghost use Rattle.bank.specs.Recording.{viewOf};
+ghost use Rattle.stage.specs.Machine.{outputOf};
+ghost use Rattle.bank.specs.Recording.{recordingOf, viewOf};
 ghost use Rattle.oneshot.specs.Mix.{sounding};
 ghost use Rattle.oneshot.specs.Sounding.{Each, Ready};
 ghost use Rattle.passes.specs.Over.{over};
 ghost use Rattle.passes.specs.Adds.{ticksOf};
 ghost use Rattle.runs.specs.Voices.{voiceBy, voicesBy, Lasts, LastsIn, Still, streamOf, voiceOn, sums};
-ghost use Rattle.runs.specs.Run.{cursorBy, transportBy, stageBy, endOf, Inside, Steady, Calm, outs};
-ghost use Rattle.runs.specs.Parts.{partOf, songPart, slotOf, tailIn, overAdds, OverReady, RunReady, FadingIn};
+ghost use Rattle.runs.specs.Core.{coreMade, coreAfter, coreAdds, CoreReady};
+ghost use Rattle.runs.specs.Run.{cursorBy, transportBy, tailBy, coreBy, endOf, Inside, Steady, Fading, Calm, partOf, songPart, overAdds, OverReady, slotOf};
+ghost use Rattle.runs.specs.Frames.{framesOf, RunReady};
 use bank::Bank;
 use bank::Clip;
 use counts::ClockFrame;
 use counts::Handle;
 use counts::SamplePlace;
 use counts::SongFrame;
+use oneshot::Pair;
 use oneshot::Voice;
 use oneshot::Voices;
 use passes::Part;
@@ -26,6 +30,7 @@ use passes::Stream;
 use ramp::Ramp;
 use stage::Fade;
 use stage::Playhead;
+use stage::Settings;
 use stage::Sound;
 use stage::Stage;
 use stage::Tail;
@@ -232,7 +237,7 @@ pub fn mix_on(voices: Voices, pool: &[f32], bank: Bank, out: &mut [f32], frames:
     }
 }
 
-// ---- song and tail
+// ---- a run of song and tail
 
 /// A clip from a cursor on; past the clip silence.
 fn part_of(clip: Clip, cursor: SongFrame) -> Part
@@ -275,7 +280,7 @@ fn cursor_by(frames: u64, cursor: SongFrame, n: usize) -> SongFrame
 
 /// A transport so many frames on.
 fn transport_by(t: Transport, frames: u64, n: usize) -> Transport
-    requires { ⌜ (isPlaying (t .state) ≡ true → Inside frames (t .cursor .0) n) × (t .position .0 + n < 18446744073709551616) ⌝ }
+    requires { ⌜ (isPlaying (t .state) ≡ true → Inside frames (t .cursor .0) n) × (isPlaying (t .state) ≡ true → t .position .0 + n < 18446744073709551616) ⌝ }
     ensures { λ r. ⌜ r ≡ transportBy frames n t ⌝ }
 {
     let state = t.state;
@@ -311,7 +316,7 @@ fn over_sums(
     n: usize,
 ) -> Over
     requires { ⌜ OverReady (now pool) song clip n (length (now out)) (fade .tail) ⌝ }
-    ensures { λ r. ⌜ (r .master ≡ ticksOf n master) × (r .fade .tail ≡ tailIn clip n (fade .tail)) × (now (out .exit) ≡ over (overAdds (now (pool .entry)) song clip master (fade .tail)) 0 (n * 2) (now (out .entry))) ⌝ }
+    ensures { λ r. ⌜ (r .master ≡ ticksOf n master) × (r .fade .tail ≡ tailBy (clip .frames) n (fade .tail)) × (now (out .exit) ≡ over (overAdds (now (pool .entry)) song clip master (fade .tail)) 0 (n * 2) (now (out .entry))) ⌝ }
 {
     let tail = fade.tail;
     match tail {
@@ -335,56 +340,6 @@ fn over_sums(
                 },
             }
         }
-    }
-}
-
-/// The slot of the tail's clip; without a tail the song's.
-fn tail_slot(tail: Tail, song: Handle) -> u32
-    ensures { λ r. ⌜ r ≡ slotOf tail song ⌝ }
-{
-    match tail {
-        Tail::None => song.slot,
-        Tail::Sounding(h, _, _) => h.slot,
-    }
-}
-
-/// So many frames at once, in which nothing is decided anew.
-pub fn run(stage: Stage, pool: &[f32], bank: Bank, out: &mut [f32], n: usize) -> Stage
-    requires { ⌜ RunReady (now pool) bank n (length (now out)) stage ⌝ }
-    ensures { λ r. ⌜ (r ≡ stageBy (viewOf (now (pool .entry)) bank) n stage) × (now (out .exit) ≡ over (outs (viewOf (now (pool .entry)) bank) stage) 0 (n * 2) (now (out .entry))) ⌝ }
-{
-    let sound = stage.sound;
-    let voices = sound.voices;
-    let next_voices = mix_on(voices, pool, bank, &mut out[..], n);
-    let playhead = stage.playhead;
-    let handle = playhead.song;
-    let slot = handle.slot as usize;
-    let song = bank.clips[slot];
-    let fade = sound.fade;
-    let tail = fade.tail;
-    let tslot = tail_slot(tail, handle) as usize;
-    let clip = bank.clips[tslot];
-    let t = playhead.transport;
-    let part = song_part(song, t);
-    let master = sound.master;
-    let made = over_sums(pool, part, clip, master, fade, &mut out[..], n);
-    let next_master = made.master;
-    let next_fade = made.fade;
-    let next_transport = transport_by(t, song.frames, n);
-    let clock = stage.clock.0 + n as u64;
-    let counters = stage.counters;
-    Stage {
-        clock: ClockFrame(clock),
-        playhead: Playhead {
-            transport: next_transport,
-            song: handle,
-        },
-        sound: Sound {
-            master: next_master,
-            fade: next_fade,
-            voices: next_voices,
-        },
-        counters: counters,
     }
 }
 
@@ -449,7 +404,7 @@ fn song_ahead(t: Transport, frames: u64, extent: SongFrame, most: usize) -> usiz
 
 /// At most so many frames in which the tail's weight does not land.
 fn tail_ahead(tail: Tail, frames: u64, most: usize) -> usize
-    ensures { λ r. ⌜ (r ≤ most) × (0 < r → FadingIn frames r tail) ⌝ }
+    ensures { λ r. ⌜ (r ≤ most) × (0 < r → Fading frames r tail) ⌝ }
 {
     match tail {
         Tail::None => most,
@@ -461,25 +416,213 @@ fn tail_ahead(tail: Tail, frames: u64, most: usize) -> usize
     }
 }
 
-/// At most so many frames in which nothing is decided anew.
-pub fn ahead(stage: Stage, pool: &[f32], bank: Bank, most: usize) -> usize
-    requires { ⌜ FrameReady (length (now pool)) bank stage ⌝ }
-    ensures { λ r. ⌜ (r ≤ most) × (0 < r → Calm (viewOf (now (pool .entry)) bank) r stage) ⌝ }
+// ---- song, master and tail
+
+/// What makes a frame over the stinger sum: the song, the master and the tail.
+struct Core {
+    playhead: Playhead,
+    master: Ramp,
+    fade: Fade,
+}
+
+/// A core a frame on, and the frame.
+struct Made {
+    core: Core,
+    out: Pair,
+}
+
+/// A core so many frames on.
+struct Gone {
+    core: Core,
+    frames: usize,
+}
+
+impl Core {
+    /// At most so many frames in which nothing is decided anew.
+    fn ahead(self, song: Clip, clip: Clip, most: usize) -> usize
+        ensures { λ r. ⌜ (r ≤ most) × (0 < r → Calm song clip r self) ⌝ }
+    {
+        let playhead = self.playhead;
+        let t = playhead.transport;
+        let kind = song.kind;
+        let extent = bank::extent_of(kind);
+        let first = song_ahead(t, song.frames, extent, most);
+        let fade = self.fade;
+        let tail = fade.tail;
+        tail_ahead(tail, clip.frames, first)
+    }
+
+    /// So many frames at once, in which nothing is decided anew, over the sums that stand there.
+    fn run(self, pool: &[f32], song: Clip, clip: Clip, out: &mut [f32], n: usize) -> Core
+        requires { ⌜ CoreReady (length (now pool)) song clip self × Calm song clip n self × (n * 2 ≤ length (now out)) ⌝ }
+        ensures { λ r. ⌜ (r ≡ coreBy (song .frames) (clip .frames) n self) × (now (out .exit) ≡ over (overAdds (now (pool .entry)) (songPart song (self .playhead .transport)) clip (self .master) (self .fade .tail)) 0 (n * 2) (now (out .entry))) ⌝ }
+    {
+        let playhead = self.playhead;
+        let handle = playhead.song;
+        let t = playhead.transport;
+        let part = song_part(song, t);
+        let master = self.master;
+        let fade = self.fade;
+        let made = over_sums(pool, part, clip, master, fade, out, n);
+        let next_master = made.master;
+        let next_fade = made.fade;
+        let next = transport_by(t, song.frames, n);
+        Core {
+            playhead: Playhead {
+                transport: next,
+                song: handle,
+            },
+            master: next_master,
+            fade: next_fade,
+        }
+    }
+
+    /// One frame over a sum: a and b, the playhead's step; d: g = master tick, out = song × g, plus the tail's share, plus the
+    /// sum, in that order of adding.
+    fn frame(self, settings: Settings, pool: &[f32], song: Clip, clip: Clip, sum: Pair) -> Made
+        requires { ⌜ CoreReady (length (now pool)) song clip self ⌝ }
+        ensures { λ r. ⌜ r ≡ coreMade settings (recordingOf (now (pool .entry)) song) (recordingOf (now (pool .entry)) clip) self sum ⌝ }
+    {
+        let playhead = self.playhead;
+        let kind = song.kind;
+        let moved = playhead.step(settings, song.frames, bank::extent_of(kind));
+        let pair = stage::played(pool, song, moved);
+        let master = self.master;
+        let ticked = master.tick();
+        let g = ticked.value;
+        let fade = self.fade;
+        let faded = fade.step_of(settings, pool, clip, g, pair.times(g));
+        let out = faded.out;
+        let next_playhead = moved.playhead;
+        let next_master = ticked.ramp;
+        let next_fade = faded.fade;
+        Made {
+            core: Core {
+                playhead: next_playhead,
+                master: next_master,
+                fade: next_fade,
+            },
+            out: out.plus(sum),
+        }
+    }
+
+    /// Some frames over the sums that stand there: at once if nothing is decided anew in the first of them, else that one.
+    fn go_on(
+        self,
+        settings: Settings,
+        pool: &[f32],
+        song: Clip,
+        clip: Clip,
+        out: &mut [f32],
+        most: usize,
+    ) -> Gone
+        requires { ⌜ CoreReady (length (now pool)) song clip self × (0 < most) × (most * 2 ≤ length (now out)) ⌝ }
+        ensures { λ r. ⌜ (0 < r .frames) × (r .frames ≤ most) × (r .core ≡ coreAfter settings (recordingOf (now (pool .entry)) song) (recordingOf (now (pool .entry)) clip) (r .frames) self) × (now (out .exit) ≡ over (coreAdds settings (recordingOf (now (pool .entry)) song) (recordingOf (now (pool .entry)) clip) self) 0 (r .frames * 2) (now (out .entry))) ⌝ }
+    {
+        let ahead = self.ahead(song, clip, most);
+        if ahead == 0 {
+            let sum = Pair {
+                left: out[0],
+                right: out[1],
+            };
+            let made = self.frame(settings, pool, song, clip, sum);
+            let pair = made.out;
+            out[0] = pair.left;
+            out[1] = pair.right;
+            let next = made.core;
+            return Gone {
+                core: next,
+                frames: 1,
+            };
+        }
+        let next = self.run(pool, song, clip, out, ahead);
+        Gone {
+            core: next,
+            frames: ahead,
+        }
+    }
+}
+
+/// So many frames of song, master and tail, over the sums that stand there.
+fn over_frames(
+    core: Core,
+    settings: Settings,
+    pool: &[f32],
+    song: Clip,
+    clip: Clip,
+    out: &mut [f32],
+    frames: usize,
+) -> Core
+    requires { ⌜ CoreReady (length (now pool)) song clip core × (frames * 2 ≤ length (now out)) ⌝ }
+    ensures { λ r. ⌜ (r ≡ coreAfter settings (recordingOf (now (pool .entry)) song) (recordingOf (now (pool .entry)) clip) frames core) × (now (out .exit) ≡ over (coreAdds settings (recordingOf (now (pool .entry)) song) (recordingOf (now (pool .entry)) clip) core) 0 (frames * 2) (now (out .entry))) ⌝ }
 {
+    let mut core = core;
+    let mut done: usize = 0;
+    while done < frames {
+        let at = done * 2;
+        let gone = core.go_on(settings, pool, song, clip, &mut out[at..], frames - done);
+        let more = gone.frames;
+        core = gone.core;
+        done = done + more;
+    }
+    core
+}
+
+// ---- all of it
+
+/// The slot of the tail's clip; without a tail the song's.
+fn tail_slot(tail: Tail, song: Handle) -> u32
+    ensures { λ r. ⌜ r ≡ slotOf tail song ⌝ }
+{
+    match tail {
+        Tail::None => song.slot,
+        Tail::Sounding(h, _, _) => h.slot,
+    }
+}
+
+/// So many frames at once, in which no voice ends.
+pub fn run(
+    stage: Stage,
+    settings: Settings,
+    pool: &[f32],
+    bank: Bank,
+    out: &mut [f32],
+    n: usize,
+) -> Stage
+    requires { ⌜ RunReady (now pool) bank n (length (now out)) stage ⌝ }
+    ensures { λ r. ⌜ (r ≡ framesOf settings (viewOf (now (pool .entry)) bank) n stage .at .core) × (now (out .exit) ≡ outputOf (framesOf settings (viewOf (now (pool .entry)) bank) n stage .made) ++ drop (n * 2) (now (out .entry))) ⌝ }
+{
+    let sound = stage.sound;
+    let voices = sound.voices;
+    let next_voices = mix_on(voices, pool, bank, &mut out[..], n);
     let playhead = stage.playhead;
     let handle = playhead.song;
     let slot = handle.slot as usize;
     let song = bank.clips[slot];
-    let t = playhead.transport;
-    let kind = song.kind;
-    let extent = bank::extent_of(kind);
-    let first = song_ahead(t, song.frames, extent, most);
-    let sound = stage.sound;
     let fade = sound.fade;
     let tail = fade.tail;
     let tslot = tail_slot(tail, handle) as usize;
     let clip = bank.clips[tslot];
-    let second = tail_ahead(tail, clip.frames, first);
-    let voices = sound.voices;
-    voices_ahead(voices, pool, bank, second)
+    let master = sound.master;
+    let core = Core {
+        playhead: playhead,
+        master: master,
+        fade: fade,
+    };
+    let next = over_frames(core, settings, pool, song, clip, &mut out[..], n);
+    let next_playhead = next.playhead;
+    let next_master = next.master;
+    let next_fade = next.fade;
+    let clock = stage.clock.0 + n as u64;
+    let counters = stage.counters;
+    Stage {
+        clock: ClockFrame(clock),
+        playhead: next_playhead,
+        sound: Sound {
+            master: next_master,
+            fade: next_fade,
+            voices: next_voices,
+        },
+        counters: counters,
+    }
 }

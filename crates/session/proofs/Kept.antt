@@ -131,7 +131,8 @@ one-more true a k h = omega arith
 one-more false a k h = omega arith
 
 module _ (s : Session) (q c : List ℕ) (w : wellFormed s q c ≡ true) where
-  song-fits : transportFits (extentNow s) (s .stage .playhead .transport) ≡ true
+  -- the song's position and loop fit it
+  pub song-fits : transportFits (extentNow s) (s .stage .playhead .transport) ≡ true
   song-fits = let p = parts s q c w in and-true (le-leb _ _ (p .position)) (p .looped)
 
   master-fits : MasterFits (s .stage .sound .master)

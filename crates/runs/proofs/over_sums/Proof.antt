@@ -17,11 +17,11 @@ enum-known-tail c = search needs
 
 part-of-requires : tie.Need-part-of-requires
 part-of-requires c κs =
-    omega (arith, (rw (c .before .tail .given .1) at (c .before .before .before .before .before .pre .tail)) .0, c .before .before .before .before .before .good .0)
+    omega (arith, c .before .before .before .before .before .pre .clip, c .before .before .before .before .before .good .0)
 
 add-both-requires : tie.Need-add-both-requires
 add-both-requires c κs =
-    let s = c .before .before .before .before .before .before .before in let t = rw (c .before .before .before .tail .given .1) at (s .pre .tail) in (s .pre .room, s .pre .song, rw (c .before .part-of .ensures) (part-reads (s .args .pool .now) (s .args .clip) _ (s .args .n) (t .0) (t .1)))
+    let s = c .before .before .before .before .before .before .before in let t = rw (c .before .before .before .tail .given .1) at (s .pre .tail) in (s .pre .room, s .pre .song, rw (c .before .part-of .ensures) (part-reads (s .args .pool .now) (s .args .clip) _ (s .args .n) (s .pre .clip) (t .1)))
 
 cursor-by-requires : tie.Need-cursor-by-requires
 cursor-by-requires c κs =

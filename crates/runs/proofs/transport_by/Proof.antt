@@ -1,5 +1,6 @@
 -- `runs::transport_by` meets its contract. Assumes nothing.
 use mathlib.Core.Path.{sym, _∙_}
+use native.Mathlib.Omega.{arith}
 use borrow.Author.Needs.{needs}
 use Rattle.runs.proofs.transport_by.Statement.{statement}
 use Rattle.runs.proofs.transport_by.Tie as tie
@@ -8,7 +9,7 @@ is-playing-requires : tie.Need-is-playing-requires
 is-playing-requires c κs = search needs
 
 add-position : tie.Need-add-position
-add-position c = search needs
+add-position c = omega (arith, c .before .before .before .pre .1 (sym (c .before .before .is-playing .ensures) ∙ c .before .if1 .taken))
 
 cursor-by-requires : tie.Need-cursor-by-requires
 cursor-by-requires c κs =
