@@ -18,13 +18,13 @@ use Rattle.oneshot.specs.Sounding.{Each}
 use Rattle.stage.specs.declared.Settings.{Settings}
 use Rattle.stage.specs.declared.Tail.{Tail}
 use Rattle.stage.specs.declared.Stage.{Stage}
-use Rattle.stage.specs.Sound.{only, sound, withTail, tailOn, renderedOf}
+use Rattle.stage.specs.Sound.{only, withTail, tailOn, renderedOf}
 use Rattle.stage.specs.Stage.{frameOf}
 use Rattle.stage.proofs.Keeps.{OfTail, tail-on}
 use Rattle.passes.proofs.Moving.{frame-left, frame-right}
 use Rattle.runs.specs.declared.Core.{Core}
 use Rattle.runs.specs.Voices.{voiceBy, voicesBy, Lasts, sumFrom}
-use Rattle.runs.specs.Core.{coreOf, coreOn, coreGives, coreAfter, coreAdds}
+use Rattle.runs.specs.Core.{coreOf, stageOn, coreOn, coreGives, coreAfter, coreAdds}
 use Rattle.runs.proofs.Voices.{by-none, mixed-frame}
 use Rattle.runs.proofs.Cores.{after-song}
 use Rattle.runs.proofs.Calm.{side-left, side-right}
@@ -64,13 +64,7 @@ module _ (x : Settings) (view : View) (t : Recording) where
 
     -- and all of it
     unfoldable pub stageAt : ℕ → Stage
-    stageAt n =
-        record {
-          clock = record { 0 = s .clock .0 + n };
-          playhead = coreAt n .playhead;
-          sound = sound (coreAt n .master) (coreAt n .fade .tail) (voicesBy n (s .sound .voices));
-          counters = s .counters;
-        }
+    stageAt n = stageOn s (voicesBy n (s .sound .voices)) n (coreAt n)
 
     -- what stands at place k of the output
     abbrev pub outs : ℕ → Float

@@ -7,22 +7,25 @@ use native.Mathlib.Omega.{arith}
 use lib.ListN.{length, take, drop, set, take-append-drop}
 use lib.Seq.{drop-set-lt}
 use lib.Ieee.{Float}
-use Rattle.laws.specs.Block.{Machine, stand, ran}
+use Rattle.laws.specs.Block.{Machine, stand, ran, run}
 use Rattle.laws.proofs.Partway.{Partway, partway-start, partway-frame, partway-ran}
 use Rattle.laws.proofs.Samples.{samples-append, take-two}
 use Rattle.timeline.specs.declared.QueueRecord.{QueueRecord}
 use Rattle.bank.specs.Recording.{Recording, View}
 use Rattle.oneshot.specs.declared.Pair.{Pair}
+use Rattle.oneshot.specs.declared.Voices.{Voices}
 use Rattle.oneshot.specs.Pair.{pair}
 use Rattle.oneshot.specs.Mix.{sounding}
 use Rattle.oneshot.specs.Sounding.{Each}
 use Rattle.stage.specs.declared.Settings.{Settings}
 use Rattle.stage.specs.declared.Stage.{Stage}
+use Rattle.stage.specs.Stage.{frameOf}
 use Rattle.stage.specs.Machine.{Told, machineOf, outputOf}
 use Rattle.passes.specs.Over.{over}
+use Rattle.passes.specs.Adds.{cleared}
 use Rattle.passes.proofs.Over.{length-over, over-again}
-use Rattle.runs.specs.Voices.{Lasts, sums}
-use Rattle.runs.specs.Core.{coreOf, coreAdds}
+use Rattle.runs.specs.Voices.{voicesBy, Lasts, sumFrom, sums}
+use Rattle.runs.specs.Core.{coreOf, stageOn, coreAfter, coreAdds}
 use Rattle.runs.specs.Frames.{framesOf}
 use Rattle.runs.proofs.Frames.{Tails, stageAt, outs, stage-none, stage-frame}
 
@@ -102,3 +105,39 @@ module _ (x : Settings) (view : View) (t : Recording) (s : Stage) (n : ℕ) (tai
       over-again (coreAdds x (view (s .playhead .song)) t (coreOf s)) (sums view (sounding (s .sound .voices))) (n * 2) os l
       ∙ written-output (outs x view t s) os n l
       ∙ sym (ap (λ r. outputOf (r .made) ++ drop (n * 2) os) all)
+
+-- ---- without a voice: over +0.0
+
+silent-voices : (n : ℕ) (v : Voices) → v .count ≡ 0 → voicesBy n v ≡ v
+silent-voices n v e = rw e refl
+
+module _ (x : Settings) (view : View) (t : Recording) (s : Stage) (n : ℕ) (tails : Tails view t (s .sound .fade .tail)) (none : s .sound .voices .count ≡ 0) where
+  lasting : Each (Lasts view n) (s .sound .voices)
+  lasting i l = absurd (omega arith)
+
+  pub silent-stage : stageOn s (s .sound .voices) n (coreAfter x (view (s .playhead .song)) t n (coreOf s)) ≡ framesOf x view n s .at .core
+  unfolding stageAt
+  silent-stage =
+      ap (λ v. stageOn s v n (coreAfter x (view (s .playhead .song)) t n (coreOf s))) (sym (silent-voices n (s .sound .voices) none)) ∙ run-stage x view t s n tails lasting (omega arith)
+
+  silent-sums : (m : ℕ) (os : List Float) → over cleared 0 m os ≡ over (sums view (sounding (s .sound .voices))) 0 m os
+  unfolding sumFrom
+  silent-sums m os = rw none refl
+
+  pub silent-output : (os : List Float) → n * 2 ≤ length os
+      → over (coreAdds x (view (s .playhead .song)) t (coreOf s)) 0 (n * 2) (over cleared 0 (n * 2) os) ≡ outputOf (framesOf x view n s .made) ++ drop (n * 2) os
+  silent-output os l =
+      ap (over (coreAdds x (view (s .playhead .song)) t (coreOf s)) 0 (n * 2)) (silent-sums (n * 2) os) ∙ run-output x view t s n tails lasting (omega arith) os l
+
+-- ---- one frame
+
+module _ (x : Settings) (view : View) (s : Stage) where
+  pub frame-stage : frameOf x view s .stage ≡ framesOf x view 1 s .at .core
+  unfolding framesOf run
+  frame-stage = refl
+
+  pub frame-output : (os : List Float) → 2 ≤ length os → set (set os 0 (frameOf x view s .out .left)) 1 (frameOf x view s .out .right) ≡ outputOf (framesOf x view 1 s .made) ++ drop 2 os
+  unfolding framesOf run
+  frame-output [] l = absurd (omega arith)
+  frame-output (a ∷ []) l = absurd (omega arith)
+  frame-output (a ∷ b ∷ os) l = refl

@@ -13,9 +13,9 @@ ghost use Rattle.oneshot.specs.Sounding.{Each, Ready};
 ghost use Rattle.passes.specs.Over.{over};
 ghost use Rattle.passes.specs.Adds.{ticksOf};
 ghost use Rattle.runs.specs.Voices.{voiceBy, voicesBy, Lasts, LastsIn, Still, streamOf, voiceOn, sums};
-ghost use Rattle.runs.specs.Core.{coreMade, coreAfter, coreAdds, CoreReady};
+ghost use Rattle.runs.specs.Core.{coreOf, coreMade, coreAfter, coreAdds, stageOn, CoreReady};
 ghost use Rattle.runs.specs.Run.{cursorBy, transportBy, tailBy, coreBy, endOf, Inside, Steady, Fading, Calm, partOf, songPart, overAdds, OverReady, slotOf};
-ghost use Rattle.runs.specs.Frames.{framesOf, RunReady};
+ghost use Rattle.runs.specs.Frames.{framesOf, FramesReady};
 use bank::Bank;
 use bank::Clip;
 use counts::ClockFrame;
@@ -580,36 +580,30 @@ fn tail_slot(tail: Tail, song: Handle) -> u32
     }
 }
 
-/// So many frames at once, in which no voice ends.
-pub fn run(
+/// So many frames of a stage over the sums that stand there, from a song's clip and a tail's; its voices are then these.
+fn over_stage(
     stage: Stage,
+    voices: Voices,
     settings: Settings,
     pool: &[f32],
-    bank: Bank,
+    song: Clip,
+    clip: Clip,
     out: &mut [f32],
     n: usize,
 ) -> Stage
-    requires { ⌜ RunReady (now pool) bank n (length (now out)) stage ⌝ }
-    ensures { λ r. ⌜ (r ≡ framesOf settings (viewOf (now (pool .entry)) bank) n stage .at .core) × (now (out .exit) ≡ outputOf (framesOf settings (viewOf (now (pool .entry)) bank) n stage .made) ++ drop (n * 2) (now (out .entry))) ⌝ }
+    requires { ⌜ CoreReady (length (now pool)) song clip (coreOf stage) × (n * 2 ≤ length (now out)) × (stage .clock .0 + n < 18446744073709551616) ⌝ }
+    ensures { λ r. ⌜ (r ≡ stageOn stage voices n (coreAfter settings (recordingOf (now (pool .entry)) song) (recordingOf (now (pool .entry)) clip) n (coreOf stage))) × (now (out .exit) ≡ over (coreAdds settings (recordingOf (now (pool .entry)) song) (recordingOf (now (pool .entry)) clip) (coreOf stage)) 0 (n * 2) (now (out .entry))) ⌝ }
 {
-    let sound = stage.sound;
-    let voices = sound.voices;
-    let next_voices = mix_on(voices, pool, bank, &mut out[..], n);
     let playhead = stage.playhead;
-    let handle = playhead.song;
-    let slot = handle.slot as usize;
-    let song = bank.clips[slot];
-    let fade = sound.fade;
-    let tail = fade.tail;
-    let tslot = tail_slot(tail, handle) as usize;
-    let clip = bank.clips[tslot];
+    let sound = stage.sound;
     let master = sound.master;
+    let fade = sound.fade;
     let core = Core {
         playhead: playhead,
         master: master,
         fade: fade,
     };
-    let next = over_frames(core, settings, pool, song, clip, &mut out[..], n);
+    let next = over_frames(core, settings, pool, song, clip, out, n);
     let next_playhead = next.playhead;
     let next_master = next.master;
     let next_fade = next.fade;
@@ -621,8 +615,65 @@ pub fn run(
         sound: Sound {
             master: next_master,
             fade: next_fade,
-            voices: next_voices,
+            voices: voices,
         },
         counters: counters,
+    }
+}
+
+/// A stage so many frames on.
+pub struct Further {
+    pub stage: Stage,
+    pub frames: usize,
+}
+
+/// Some frames of a stage: all of them without a voice, else those before one ends, and where one ends that frame.
+pub fn frames_on(
+    stage: Stage,
+    settings: Settings,
+    pool: &[f32],
+    bank: Bank,
+    out: &mut [f32],
+    most: usize,
+) -> Further
+    requires { ⌜ FramesReady (now pool) bank most (length (now out)) stage ⌝ }
+    ensures { λ r. ⌜ (0 < r .frames) × (r .frames ≤ most) × (r .stage ≡ framesOf settings (viewOf (now (pool .entry)) bank) (r .frames) stage .at .core) × (now (out .exit) ≡ outputOf (framesOf settings (viewOf (now (pool .entry)) bank) (r .frames) stage .made) ++ drop (r .frames * 2) (now (out .entry))) ⌝ }
+{
+    let playhead = stage.playhead;
+    let handle = playhead.song;
+    let slot = handle.slot as usize;
+    let song = bank.clips[slot];
+    let sound = stage.sound;
+    let fade = sound.fade;
+    let tail = fade.tail;
+    let tslot = tail_slot(tail, handle) as usize;
+    let clip = bank.clips[tslot];
+    let voices = sound.voices;
+    if voices.count == 0 {
+        let places = most * 2;
+        passes::clear(&mut out[..], places);
+        let next = over_stage(stage, voices, settings, pool, song, clip, out, most);
+        return Further {
+            stage: next,
+            frames: most,
+        };
+    }
+    let ahead = voices_ahead(voices, pool, bank, most);
+    if ahead == 0 {
+        let made = stage.frame(settings, pool, bank);
+        let pair = made.out;
+        out[0] = pair.left;
+        out[1] = pair.right;
+        let next = made.stage;
+        return Further {
+            stage: next,
+            frames: 1,
+        };
+    }
+    let next_voices = mix_on(voices, pool, bank, &mut out[..], ahead);
+    let next = over_stage(stage, next_voices, settings, pool, song, clip, out, ahead);
+    Further {
+        stage: next,
+        frames: ahead,
     }
 }
