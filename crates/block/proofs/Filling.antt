@@ -4,14 +4,13 @@ use mathlib.Core.Bool.{true, false}
 use mathlib.Core.List.{List, [], _∷_, _++_, append-nil, append-assoc}
 use Prim.Native.Nat.{ℕ, zero, suc, _+_, _*_, _-_, _^_, _≤_, _<_}
 use native.Mathlib.Omega.{arith}
-use lib.ListN.{length, take, drop, length-append, length-take, length-drop}
+use lib.ListN.{length, getD, take, drop, length-append, length-take, length-drop}
 use lib.Seq.{take-at, take-all}
 use lib.Ieee.{Float}
 use borrow.Author.Tests.{leb-false}
 use Rattle.laws.specs.Block.{Machine, At, stand, ran, still, executing, one, run, block}
 use Rattle.laws.specs.Queue.{Clear}
 use Rattle.laws.proofs.Cut.{block-none}
-use Rattle.laws.proofs.Stepwise.{run-keeps}
 use Rattle.laws.proofs.Clock.{run-clock, run-length}
 use Rattle.laws.proofs.Samples.{samples-append, samples-length}
 use Rattle.laws.proofs.Partway.{Partway, partway-start, partway-exec, partway-stretch, partway-block}
@@ -21,18 +20,26 @@ use Rattle.timeline.specs.Store.{rowAt}
 use Rattle.timeline.specs.Queue.{queue}
 use Rattle.timeline.proofs.Queue.{length-queue}
 use Rattle.bank.specs.Sample.{framesOf, isPool}
+use Rattle.bank.specs.declared.Clip.{Clip}
+use Rattle.bank.specs.declared.Bank.{Bank}
+use Rattle.bank.specs.Slots.{blank, clipOf}
 use Rattle.bank.specs.Recording.{viewOf}
+use Rattle.bank.proofs.Places.{getD-any}
 use Rattle.oneshot.specs.declared.Pair.{Pair}
+use Rattle.stage.specs.declared.Settings.{Settings}
 use Rattle.stage.specs.declared.Stage.{Stage}
 use Rattle.stage.specs.Machine.{Told, machineOf, outputOf}
 use Rattle.stage.proofs.Clock.{clocked}
+use Rattle.session.specs.declared.Desk.{Desk}
 use Rattle.session.specs.declared.Session.{Session}
 use Rattle.session.specs.declared.Answer.{Answer}
-use Rattle.session.specs.Session.{withStage}
 use Rattle.session.specs.Answer.{answered}
-use Rattle.block.specs.Block.{ranOf, blockDone}
-use Rattle.block.specs.Fill.{firstDue, leadOf, firstDone, stretchOf, Going, Stretchable, Fillable}
-use Rattle.block.proofs.Kept.{Standing, framed, executed}
+use Rattle.session.proofs.Ready.{frame-ready}
+use Rattle.session.proofs.Kept.{song-fits}
+use Rattle.runs.specs.Frames.{stretchOf, FramesReady}
+use Rattle.block.specs.Block.{ofParts, ranOf, blockDone}
+use Rattle.block.specs.Fill.{firstDue, leadOf, firstDone, Going, Fillable}
+use Rattle.block.proofs.Kept.{Standing, run-stands, executed}
 use Rattle.block.proofs.Steps.{due-some, due-at, queue-some, lead-most, lead-some}
 
 -- a part that was lent comes back: what was written at its front stands behind what stood before it
@@ -45,48 +52,52 @@ pub part-length : {A : Type 0} (o y : List A) (a : ℕ) → a ≤ length o → l
     → length (take a o ++ (y ++ drop (length o - a) (drop a o))) ≡ length o
 part-length o y a h e = simp (length-append, length-take, length-drop) (omega arith)
 
-module _ (b : Session) (q : List ℕ) (pool : List Float) where
+module _ (x : Settings) (b : Bank) (t : Stage) (m : ℕ) (q : List ℕ) (pool : List Float) where
   abbrev machine : Machine Stage QueueRecord Pair Told
-  machine = machineOf (b .settings) (viewOf pool (b .bank))
+  machine = machineOf x (viewOf pool b)
 
   abbrev began : At Stage QueueRecord
-  began = stand (b .stage) (queue q (b .queued))
+  began = stand t (queue q m)
 
-  lead-clear : (k t left : ℕ) → firstDue q k t ≡ false → Clear machine (queue q k) (t + leadOf q k t left)
-  lead-clear zero t left h = tt
-  lead-clear (suc k) t left h = omega (arith, leb-false (rowAt q k .at) t h)
+  -- the session at a stage with k commands queued
+  abbrev at : Stage → ℕ → Desk → Session
+  at y k desk = ofParts x b y k desk
 
-  one-not : (x : Stage) (k : ℕ) → firstDue q k (x .clock .0) ≡ false → one machine x (queue q k) ≡ still (stand x (queue q k))
-  one-not x zero h = refl
-  one-not x (suc k) h = rw h
+  lead-clear : (k c left j : ℕ) → firstDue q k c ≡ false → j ≤ leadOf q k c left → Clear machine (queue q k) (c + j)
+  lead-clear zero c left j h l = tt
+  lead-clear (suc k) c left j h l = omega (arith, leb-false (rowAt q k .at) c h)
 
-  one-due : (x : Stage) (k : ℕ) → firstDue q k (x .clock .0) ≡ true
-      → one machine x (queue q k) ≡ executing machine (recordOf (rowAt q (k - 1))) x (queue q (k - 1))
-  one-due x k h =
-      let pos : 0 < k = due-some q k (x .clock .0) h in
-      rw (queue-some q k (x .clock .0) pos, sym (due-at q k (x .clock .0) pos) ∙ h)
+  one-not : (y : Stage) (k : ℕ) → firstDue q k (y .clock .0) ≡ false → one machine y (queue q k) ≡ still (stand y (queue q k))
+  one-not y zero h = refl
+  one-not y (suc k) h = rw h
 
-  -- i of n frames of the block that began with b are made, and s is the session so far
-  pub record Filling (n : ℕ) (o : List Float) (s : Session) (i : ℕ) : Type 0 where
+  one-due : (y : Stage) (k : ℕ) → firstDue q k (y .clock .0) ≡ true
+      → one machine y (queue q k) ≡ executing machine (recordOf (rowAt q (k - 1))) y (queue q (k - 1))
+  one-due y k h =
+      let pos : 0 < k = due-some q k (y .clock .0) h in
+      rw (queue-some q k (y .clock .0) pos, sym (due-at q k (y .clock .0) pos) ∙ h)
+
+  -- i of n frames of the block that began at t are made, and it has come to a stage y with k commands queued
+  pub record Filling (n : ℕ) (o : List Float) (y : Stage) (k i : ℕ) : Type 0 where
+    pub desk : Desk
     pub capture : List ℕ
-    pub same : s ≡ withStage b (s .stage) (s .queued)
-    pub stands : Standing b q capture (s .queued) (stand (s .stage) (queue q (s .queued)))
-    pub number : b .desk .number < 2 ^ 64
-    pub lent : isPool pool (b .settings .pool) ≡ true
+    pub stands : Standing (at t m desk) q capture k (stand y (queue q k))
+    pub number : desk .number < 2 ^ 64
+    pub lent : isPool pool (x .pool) ≡ true
     pub most : i ≤ n
     pub size : length o ≡ n * 2
-    pub clock : s .stage .clock .0 + (n - i) ≤ 2 ^ 62
+    pub clock : y .clock .0 + (n - i) ≤ 2 ^ 62
     pub made : List Pair
     pub told : List Told
-    pub partway : Partway machine n began i (s .stage) (queue q (s .queued)) made told
+    pub partway : Partway machine n began i y (queue q k) made told
     pub sound : outputOf made ≡ take (i * 2) o
 
   -- at its start
-  pub fill-start : (o : List Float) → Fillable b q pool o → Filling (framesOf o) o b 0
+  pub fill-start : (o : List Float) → Fillable x b t m q pool o → Filling (framesOf o) o t m 0
   fill-start o h =
       record {
+        desk = h .going .desk;
         capture = h .going .capture;
-        same = refl;
         stands = record { queued = refl; formed = h .going .formed; places = h .going .places };
         number = h .going .number;
         lent = h .lent;
@@ -99,149 +110,118 @@ module _ (b : Session) (q : List ℕ) (pool : List Float) where
         sound = refl;
       }
 
-  module _ (n : ℕ) (o : List Float) (i : ℕ) where
-    -- where the session is b at a stage x with k commands queued
-    module _ (x : Stage) (k : ℕ) (h : Filling n o (withStage b x k) i) where
-      exec-at : i < n → firstDue q k (x .clock .0) ≡ true → Filling n o (firstDone (withStage b x k) q) i
-      unfolding viewOf
-      exec-at lt d =
-          let pos : 0 < k = due-some q k (x .clock .0) d in
-          let e : k ≡ suc (k - 1) = omega arith in
-          let r : QueueRecord = recordOf (rowAt q (k - 1)) in
-          record {
-            capture = h .capture;
-            same = refl;
-            stands =
-                executed b q (h .capture) pool (k - 1) r x (queue q (k - 1))
-                (subst (λ (m : ℕ). Standing b q (h .capture) m (stand x (queue q m))) e (h .stands));
-            number = h .number;
-            lent = h .lent;
-            most = h .most;
-            size = h .size;
-            clock = omega (arith, h .clock, clocked (b .settings) (viewOf pool (b .bank)) .stays r x);
-            made = h .made;
-            told = h .told ++ (machine .tells r x ∷ []);
-            partway =
-                partway-exec machine n began i x (queue q (k - 1)) (h .made) (h .told) r lt (sym (due-at q k (x .clock .0) pos) ∙ d)
-                (rw (queue-some q k (x .clock .0) pos) at (h .partway));
-            sound = h .sound;
-          }
+  module _ (n : ℕ) (o : List Float) (y : Stage) (k i : ℕ) (h : Filling n o y k i) where
+    -- the session so far is going
+    pub fill-going : Going x b y k q
+    fill-going = record { desk = h .desk; capture = h .capture; formed = h .stands .formed; places = h .stands .places; number = h .number }
 
-      run-stands : (j : ℕ) → x .clock .0 + j ≤ 2 ^ 62 → Standing b q (h .capture) k (stand (run machine j (stand x []) .at .core) (queue q k))
-      run-stands j l =
-          run-keeps machine (λ y. y .clock .0 ≤ 2 ^ 62 → Standing b q (h .capture) k (stand y (queue q k)))
-          (λ y p m.
-          let t : suc (y .clock .0) ≤ 2 ^ 62 = omega (arith, clocked (b .settings) (viewOf pool (b .bank)) .ticks y) in
-          framed b q (h .capture) pool k y (queue q k) (p (omega arith)) (omega arith))
-          j x (λ m. h .stands) (omega (arith, run-clock machine (clocked (b .settings) (viewOf pool (b .bank))) j (stand x [])))
+    -- its song is in a slot
+    pub fill-slot : y .playhead .song .slot < 32
+    fill-slot = frame-ready (at y k (h .desk)) q (h .capture) (h .stands .formed) pool (h .lent) .slot
 
-      stretch-at : (j : ℕ) (ys : List Float) → i < n → firstDue q k (x .clock .0) ≡ false → j ≡ leadOf q k (x .clock .0) (n - i)
-          → ys ≡ outputOf (run machine j (stand x []) .made) ++ drop (j * 2) (take (length o - i * 2) (drop (i * 2) o))
+    -- so what is read there is its clip
+    pub fill-clip : length (b .clips) ≡ 32 → (d : Clip) → getD (b .clips) (y .playhead .song .slot) d ≡ clipOf b (y .playhead .song)
+    fill-clip e d = getD-any (b .clips) (y .playhead .song .slot) d blank (omega (arith, fill-slot))
+
+    -- a turn that executes a command, where a clip is the song that plays
+    pub fill-exec : (clip : Clip) → clip ≡ clipOf b (y .playhead .song) → i < n → firstDue q k (y .clock .0) ≡ true → Filling n o (firstDone x clip q k y) (k - 1) i
+    unfolding viewOf
+    fill-exec clip ec lt d =
+        let pos : 0 < k = due-some q k (y .clock .0) d in
+        let e : k ≡ suc (k - 1) = omega arith in
+        let r : QueueRecord = recordOf (rowAt q (k - 1)) in
+        rw ec
+        (record {
+          desk = h .desk;
+          capture = h .capture;
+          stands =
+              executed (at t m (h .desk)) q (h .capture) pool (k - 1) r y (queue q (k - 1))
+              (subst (λ (j : ℕ). Standing (at t m (h .desk)) q (h .capture) j (stand y (queue q j))) e (h .stands));
+          number = h .number;
+          lent = h .lent;
+          most = h .most;
+          size = h .size;
+          clock = omega (arith, h .clock, clocked x (viewOf pool b) .stays r y);
+          made = h .made;
+          told = h .told ++ (machine .tells r y ∷ []);
+          partway =
+              partway-exec machine n began i y (queue q (k - 1)) (h .made) (h .told) r lt (sym (due-at q k (y .clock .0) pos) ∙ d)
+              (rw (queue-some q k (y .clock .0) pos) at (h .partway));
+          sound = h .sound;
+        })
+
+    -- some frames can be made before the next command, into the later part of the output
+    pub turn-asked : (l : ℕ) → l ≡ leadOf q k (y .clock .0) (n - i) → i < n → firstDue q k (y .clock .0) ≡ false → FramesReady pool b l (length (take (length o - i * 2) (drop (i * 2) o))) y
+    turn-asked l e lt d =
+        let most = lead-most q k (y .clock .0) (n - i) in
+        record {
+          ready = frame-ready (at y k (h .desk)) q (h .capture) (h .stands .formed) pool (h .lent);
+          fits = song-fits (at y k (h .desk)) q (h .capture) (h .stands .formed);
+          some = omega (arith, lead-some q k (y .clock .0) (n - i) d (omega arith));
+          room = simp (length-take, length-drop) (omega (arith, h .size, h .most, most));
+          clock = omega (arith, h .clock, most);
+        }
+
+    module _ (j : ℕ) (few : j ≤ leadOf q k (y .clock .0) (n - i)) where
+      -- those that are made are no more than are left
+      pub turn-most : i + j ≤ n
+      turn-most = omega (arith, h .most, lead-most q k (y .clock .0) (n - i))
+
+      -- a turn that makes them
+      pub fill-stretch : (r : Stage) (ys : List Float) → firstDue q k (y .clock .0) ≡ false
+          → r ≡ stretchOf x (viewOf pool b) j y .at .core
+          → ys ≡ outputOf (stretchOf x (viewOf pool b) j y .made) ++ drop (j * 2) (take (length o - i * 2) (drop (i * 2) o))
           → length ys ≡ length (take (length o - i * 2) (drop (i * 2) o))
-          → Filling n (take (i * 2) o ++ (ys ++ drop (length o - i * 2) (drop (i * 2) o))) (withStage b (run machine j (stand x []) .at .core) k) (i + j)
-      stretch-at j ys lt d ej ey ly =
+          → Filling n (take (i * 2) o ++ (ys ++ drop (length o - i * 2) (drop (i * 2) o))) r k (i + j)
+      unfolding stretchOf
+      fill-stretch r ys d er ey ly =
           let two : (i + j) * 2 ≡ i * 2 + j * 2 = omega arith in
-          let most : i + j ≤ n = omega (arith, lead-most q k (x .clock .0) (n - i)) in
-          let clock = run-clock machine (clocked (b .settings) (viewOf pool (b .bank))) j (stand x []) in
-          record {
+          let most = turn-most in
+          let clock = run-clock machine (clocked x (viewOf pool b)) j (stand y []) in
+          rw er
+          (record {
+            desk = h .desk;
             capture = h .capture;
-            same = refl;
-            stands = run-stands j (omega (arith, h .clock));
+            stands = run-stands (at t m (h .desk)) q (h .capture) pool k j y (queue q k) (h .stands) (omega (arith, h .clock));
             number = h .number;
             lent = h .lent;
             most = most;
             size = part-length o ys (i * 2) (omega (arith, h .size)) (ly ∙ simp (length-take, length-drop) (omega arith)) ∙ h .size;
             clock = omega (arith, h .clock, clock);
-            made = h .made ++ run machine j (stand x []) .made;
+            made = h .made ++ run machine j (stand y []) .made;
             told = h .told;
-            partway =
-                partway-stretch machine n began i x (queue q k) (h .made) (h .told) (clocked (b .settings) (viewOf pool (b .bank))) j most
-                (rw ej (lead-clear k (x .clock .0) (n - i) d))
-                (h .partway);
+            partway = partway-stretch machine n began i y (queue q k) (h .made) (h .told) (clocked x (viewOf pool b)) j most (lead-clear k (y .clock .0) (n - i) j d few) (h .partway);
             sound =
                 rw (samples-append _ _ (h .made), h .sound, two, ey)
                 (sym (part-take o _ _ _ (i * 2) (j * 2) (omega (arith, h .size))
-                (samples-length _ _ (run machine j (stand x []) .made) ∙ ap (λ (m : ℕ). m * 2) (run-length machine j (stand x [])))));
-          }
+                (samples-length _ _ (run machine j (stand y []) .made) ∙ ap (λ (l : ℕ). l * 2) (run-length machine j (stand y [])))));
+          })
 
-      ends-at : (c : Stage) (m : ℕ) (told : List Told) → 0 < n → i ≡ n → one machine x (queue q k) ≡ ran (stand c (queue q m)) [] told
-          → (answered Answer.Done (withStage b c m), o) ≡ blockDone b (ranOf b q pool n)
+    -- what the block gives, whatever the desk
+    module _ (pos : 0 < n) (e : i ≡ n) (desk : Desk) where
+      ends-at : (c : Stage) (l : ℕ) (told : List Told) → one machine y (queue q k) ≡ ran (stand c (queue q l)) [] told
+          → (answered Answer.Done (at c l desk), o) ≡ blockDone (at t m desk) (ranOf (at t m desk) q pool n)
       unfolding ranOf
-      ends-at c m told pos e w =
-          let r : block machine n began ≡ ran (stand c (queue q m)) (h .made) (h .told ++ told) =
-          partway-block machine n began i x (queue q k) (h .made) (h .told) (omega arith) (h .partway) pos ∙ rw (w, append-nil (h .made)) in
-          rw (r, length-queue q m, h .sound, take-all (i * 2) o (omega (arith, h .size)))
-
-    module _ (s : Session) (h : Filling n o s i) where
-      at : Filling n o (withStage b (s .stage) (s .queued)) i
-      at = subst (λ (t : Session). Filling n o t i) (h .same) h
-
-      -- the session so far is going
-      pub fill-going : Going s q
-      fill-going =
-          record {
-            capture = h .capture;
-            formed = rw (h .same) (h .stands .formed);
-            places = h .stands .places;
-            number = rw (h .same) (h .number);
-          }
-
-      -- a turn that executes a command
-      pub fill-exec : i < n → firstDue q (s .queued) (s .stage .clock .0) ≡ true → Filling n o (firstDone s q) i
-      fill-exec lt d = subst (λ (t : Session). Filling n o (firstDone t q) i) (sym (h .same)) (exec-at (s .stage) (s .queued) at lt d)
-
-      module _ (j : ℕ) (ej : j ≡ leadOf q (s .queued) (s .stage .clock .0) (n - i)) where
-        -- a turn makes no more frames than are left,
-        pub turn-most : i + j ≤ n
-        turn-most = omega (arith, h .most, lead-most q (s .queued) (s .stage .clock .0) (n - i))
-
-        -- and at least one
-        pub turn-some : i < n → firstDue q (s .queued) (s .stage .clock .0) ≡ false → 0 < j
-        turn-some lt d = omega (arith, lead-some q (s .queued) (s .stage .clock .0) (n - i) d (omega arith))
-
-        -- they can be made, into the later part of the output
-        pub turn-asked : Stretchable s pool j (length (take (length o - i * 2) (drop (i * 2) o)))
-        turn-asked =
-            record {
-              queue = q;
-              going = fill-going;
-              lent = rw (h .same) (h .lent);
-              clock = omega (arith, h .clock, turn-most);
-              room = simp (length-take, length-drop) (omega (arith, h .size, turn-most));
-            }
-
-        -- a turn that makes them
-        pub fill-stretch : (r : Session) (ys : List Float) → i < n → firstDue q (s .queued) (s .stage .clock .0) ≡ false
-            → r ≡ withStage s (stretchOf s pool j .at .core) (s .queued)
-            → ys ≡ outputOf (stretchOf s pool j .made) ++ drop (j * 2) (take (length o - i * 2) (drop (i * 2) o))
-            → length ys ≡ length (take (length o - i * 2) (drop (i * 2) o))
-            → Filling n (take (i * 2) o ++ (ys ++ drop (length o - i * 2) (drop (i * 2) o))) r (i + j)
-        unfolding stretchOf
-        fill-stretch r ys lt d er ey ly =
-            subst (λ (t : Session). Filling n (take (i * 2) o ++ (ys ++ drop (length o - i * 2) (drop (i * 2) o))) t (i + j))
-            (sym (subst (λ (t : Session). r ≡ withStage t (stretchOf t pool j .at .core) (t .queued)) (h .same) er))
-            (stretch-at (s .stage) (s .queued) at j ys lt d ej
-            (subst (λ (t : Session). ys ≡ outputOf (stretchOf t pool j .made) ++ drop (j * 2) (take (length o - i * 2) (drop (i * 2) o))) (h .same) ey)
-            ly)
+      ends-at c l told w =
+          let r : block machine n began ≡ ran (stand c (queue q l)) (h .made) (h .told ++ told) =
+          partway-block machine n began i y (queue q k) (h .made) (h .told) (omega arith) (h .partway) pos ∙ rw (w, append-nil (h .made)) in
+          rw (r, length-queue q l, h .sound, take-all (i * 2) o (omega (arith, h .size)))
 
       -- left after the single command at the block's end
-      pub fill-last : 0 < n → i ≡ n → firstDue q (s .queued) (s .stage .clock .0) ≡ true
-          → (answered Answer.Done (firstDone s q), o) ≡ blockDone b (ranOf b q pool n)
+      pub fill-last : (clip : Clip) → clip ≡ clipOf b (y .playhead .song) → firstDue q k (y .clock .0) ≡ true
+          → (answered Answer.Done (at (firstDone x clip q k y) (k - 1) desk), o) ≡ blockDone (at t m desk) (ranOf (at t m desk) q pool n)
       unfolding viewOf
-      fill-last pos e d =
-          let r : QueueRecord = recordOf (rowAt q (s .queued - 1)) in
-          subst (λ (t : Session). (answered Answer.Done (firstDone t q), o) ≡ blockDone b (ranOf b q pool n)) (sym (h .same))
-          (ends-at (s .stage) (s .queued) at (machine .exec r (s .stage)) (s .queued - 1) (machine .tells r (s .stage) ∷ []) pos e
-          (one-due (s .stage) (s .queued) d))
+      fill-last clip ec d =
+          let r : QueueRecord = recordOf (rowAt q (k - 1)) in
+          rw ec (ends-at (machine .exec r y) (k - 1) (machine .tells r y ∷ []) (one-due y k d))
 
       -- left with nothing due at the block's end
-      pub fill-end : 0 < n → i ≡ n → firstDue q (s .queued) (s .stage .clock .0) ≡ false → (answered Answer.Done s, o) ≡ blockDone b (ranOf b q pool n)
-      fill-end pos e d =
-          subst (λ (t : Session). (answered Answer.Done t, o) ≡ blockDone b (ranOf b q pool n)) (sym (h .same))
-          (ends-at (s .stage) (s .queued) at (s .stage) (s .queued) [] pos e (one-not (s .stage) (s .queued) d))
+      pub fill-end : firstDue q k (y .clock .0) ≡ false → (answered Answer.Done (at y k desk), o) ≡ blockDone (at t m desk) (ranOf (at t m desk) q pool n)
+      fill-end d = ends-at y k [] (one-not y k d)
 
   -- a block of no frames
-  pub fill-none : (o : List Float) → length o ≡ framesOf o * 2 → framesOf o ≡ 0 → (answered Answer.Done b, o) ≡ blockDone b (ranOf b q pool (framesOf o))
+  pub fill-none : (o : List Float) → length o ≡ framesOf o * 2 → framesOf o ≡ 0 → (desk : Desk)
+      → (answered Answer.Done (at t m desk), o) ≡ blockDone (at t m desk) (ranOf (at t m desk) q pool (framesOf o))
   unfolding ranOf
-  fill-none [] e z = rw (block-none machine began, length-queue q (b .queued))
-  fill-none (x ∷ o) e z = absurd (omega arith)
+  fill-none [] e z desk = rw (block-none machine began, length-queue q m)
+  fill-none (f ∷ o) e z desk = absurd (omega arith)

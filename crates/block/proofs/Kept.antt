@@ -1,15 +1,15 @@
 -- A well formed session is well formed after a block, over any pool: each frame and each executed command keeps it so, and what was not executed stays queued. Assumes nothing.
 use mathlib.Core.Path.{_≡_, refl, sym, ap, _∙_, subst}
 use mathlib.Core.Bool.{true}
-use mathlib.Core.List.{List, _∷_}
+use mathlib.Core.List.{List, [], _∷_}
 use Prim.Native.Nat.{ℕ, zero, suc, _+_, _^_, _≤_}
 use native.Mathlib.Omega.{arith}
 use lib.ListN.{length, length-append}
 use lib.Ieee.{Float}
 use borrow.Author.Tests.{ltb-false}
-use Rattle.laws.specs.Block.{At, Ran, Machine, stand, still, after, executing, framing}
-use Rattle.laws.proofs.Clock.{block-length}
-use Rattle.laws.proofs.Stepwise.{Stepwise, block-stepwise}
+use Rattle.laws.specs.Block.{At, Ran, Machine, stand, still, after, executing, framing, run}
+use Rattle.laws.proofs.Clock.{run-clock, block-length}
+use Rattle.laws.proofs.Stepwise.{Stepwise, run-keeps, block-stepwise}
 use Rattle.timeline.specs.declared.QueueRecord.{QueueRecord}
 use Rattle.timeline.specs.Record.{recordOf}
 use Rattle.timeline.specs.Store.{rowAt}
@@ -21,6 +21,7 @@ use Rattle.oneshot.specs.declared.Pair.{Pair}
 use Rattle.stage.specs.declared.Stage.{Stage}
 use Rattle.stage.specs.Machine.{Told, machineOf}
 use Rattle.stage.proofs.Keeps.{frame-clock, exec-clock}
+use Rattle.stage.proofs.Clock.{clocked}
 use Rattle.session.specs.declared.Session.{Session}
 use Rattle.session.specs.declared.Answer.{Answer}
 use Rattle.session.specs.Session.{withStage}
@@ -53,6 +54,16 @@ module _ (s : Session) (q c : List ℕ) where
     framed k x l p h =
         let y : Session = withStage s x k in
         record { queued = p .queued; formed = frame-keeps y q c (p .formed) pool h; places = frame-table y q c (p .formed) pool (p .places) }
+
+    -- so do n of them,
+    pub run-stands : (k n : ℕ) (x : Stage) (l : List QueueRecord) → Standing k (stand x l) → x .clock .0 + n ≤ 2 ^ 62
+        → Standing k (stand (run machine n (stand x []) .at .core) l)
+    run-stands k n x l p h =
+        run-keeps machine (λ y. y .clock .0 ≤ 2 ^ 62 → Standing k (stand y l))
+        (λ y p m.
+        let t : suc (y .clock .0) ≤ 2 ^ 62 = omega (arith, clocked (s .settings) (viewOf pool (s .bank)) .ticks y) in
+        framed k y l (p (omega arith)) (omega arith))
+        n x (λ m. p) (omega (arith, run-clock machine (clocked (s .settings) (viewOf pool (s .bank))) n (stand x [])))
 
     -- and so does the first command, executed
     pub executed : (k : ℕ) (d : QueueRecord) (x : Stage) (l : List QueueRecord) → Standing (suc k) (stand x (d ∷ l)) → Standing k (stand (machine .exec d x) l)

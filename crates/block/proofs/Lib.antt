@@ -7,5 +7,4 @@ pub mod Pools
 pub mod Numbers
 mod Steps
 mod Going
-mod Stretching
 mod Filling

@@ -60,10 +60,11 @@ module _ (s : Session) (q c : List ℕ) (pool out : List Float) where
   block-refused k e = unless-refused _ _ _ k e
 
   -- its frames can be made, where its numbers are of their types
-  pub fillable : Accepted s q c pool out → length (s .stage .sound .voices .table) ≡ 16 → s .desk .number < 2 ^ 64 → Fillable s q pool out
+  pub fillable : Accepted s q c pool out → length (s .stage .sound .voices .table) ≡ 16 → s .desk .number < 2 ^ 64
+      → Fillable (s .settings) (s .bank) (s .stage) (s .queued) q pool out
   fillable a places number =
       record {
-        going = record { capture = c; formed = a .formed; places = places; number = number };
+        going = record { desk = s .desk; capture = c; formed = a .formed; places = places; number = number };
         lent = a .lent;
         even = let odd = eqb-false (length out % 2) 1 (a .even) in omega arith;
         clock = a .clock;

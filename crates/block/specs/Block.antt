@@ -9,10 +9,13 @@ use Rattle.laws.specs.Block.{Ran, stand, block}
 use Rattle.timeline.specs.declared.QueueRecord.{QueueRecord}
 use Rattle.timeline.specs.Queue.{queue}
 use Rattle.bank.specs.Sample.{framesOf, isPool, isOdd}
+use Rattle.bank.specs.declared.Bank.{Bank}
 use Rattle.bank.specs.Recording.{viewOf}
 use Rattle.oneshot.specs.declared.Pair.{Pair}
+use Rattle.stage.specs.declared.Settings.{Settings}
 use Rattle.stage.specs.declared.Stage.{Stage}
 use Rattle.stage.specs.Machine.{Told, machineOf, outputOf}
+use Rattle.session.specs.declared.Desk.{Desk}
 use Rattle.session.specs.declared.Session.{Session}
 use Rattle.session.specs.declared.Refusal.{Refusal}
 use Rattle.session.specs.declared.Weighed.{Weighed}
@@ -22,6 +25,10 @@ use Rattle.session.specs.Refusal.{first, unless}
 use Rattle.session.specs.Session.{withStage}
 use Rattle.session.specs.WellFormed.{wellFormed}
 use Rattle.session.specs.Answer.{answered}
+
+-- the session of its parts
+abbrev pub ofParts : Settings → Bank → Stage → ℕ → Desk → Session
+ofParts x b t n d = record { settings = x; bank = b; stage = t; queued = n; desk = d }
 
 -- 1, 2, 3, 4
 unfoldable pub weighBlock : Session → List ℕ → List ℕ → List Float → List Float → Weighed

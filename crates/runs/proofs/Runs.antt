@@ -26,7 +26,7 @@ use Rattle.passes.specs.Adds.{cleared}
 use Rattle.passes.proofs.Over.{length-over, over-again}
 use Rattle.runs.specs.Voices.{voicesBy, Lasts, sumFrom, sums}
 use Rattle.runs.specs.Core.{coreOf, stageOn, coreAfter, coreAdds}
-use Rattle.runs.specs.Frames.{framesOf}
+use Rattle.runs.specs.Frames.{stretchOf}
 use Rattle.runs.proofs.Frames.{Tails, stageAt, outs, stage-none, stage-frame}
 
 -- ---- a pass that writes each place is the samples of its frames, and after them what stood there
@@ -91,16 +91,16 @@ module _ (x : Settings) (view : View) (t : Recording) (s : Stage) (n : ℕ) (tai
       partway-frame machine n (stand s []) i (at i) [] (made i) [] (omega arith) tt (partway i (omega arith)) in
       rw (← add-one i) (rw (e, o) at p)
 
-  all : framesOf x view n s ≡ ran (stand (at n) []) (made n) []
-  unfolding framesOf
+  all : stretchOf x view n s ≡ ran (stand (at n) []) (made n) []
+  unfolding stretchOf
   all = partway-ran machine n (stand s []) n (at n) [] (made n) [] (omega arith) (partway n (omega arith))
 
-  pub run-stage : at n ≡ framesOf x view n s .at .core
+  pub run-stage : at n ≡ stretchOf x view n s .at .core
   run-stage = sym (ap (λ r. r .at .core) all)
 
   -- the core over the sums
   pub run-output : (os : List Float) → n * 2 ≤ length os
-      → over (coreAdds x (view (s .playhead .song)) t (coreOf s)) 0 (n * 2) (over (sums view (sounding (s .sound .voices))) 0 (n * 2) os) ≡ outputOf (framesOf x view n s .made) ++ drop (n * 2) os
+      → over (coreAdds x (view (s .playhead .song)) t (coreOf s)) 0 (n * 2) (over (sums view (sounding (s .sound .voices))) 0 (n * 2) os) ≡ outputOf (stretchOf x view n s .made) ++ drop (n * 2) os
   run-output os l =
       over-again (coreAdds x (view (s .playhead .song)) t (coreOf s)) (sums view (sounding (s .sound .voices))) (n * 2) os l
       ∙ written-output (outs x view t s) os n l
@@ -115,7 +115,7 @@ module _ (x : Settings) (view : View) (t : Recording) (s : Stage) (n : ℕ) (tai
   lasting : Each (Lasts view n) (s .sound .voices)
   lasting i l = absurd (omega arith)
 
-  pub silent-stage : stageOn s (s .sound .voices) n (coreAfter x (view (s .playhead .song)) t n (coreOf s)) ≡ framesOf x view n s .at .core
+  pub silent-stage : stageOn s (s .sound .voices) n (coreAfter x (view (s .playhead .song)) t n (coreOf s)) ≡ stretchOf x view n s .at .core
   unfolding stageAt
   silent-stage =
       ap (λ v. stageOn s v n (coreAfter x (view (s .playhead .song)) t n (coreOf s))) (sym (silent-voices n (s .sound .voices) none)) ∙ run-stage x view t s n tails lasting (omega arith)
@@ -125,19 +125,19 @@ module _ (x : Settings) (view : View) (t : Recording) (s : Stage) (n : ℕ) (tai
   silent-sums m os = rw none refl
 
   pub silent-output : (os : List Float) → n * 2 ≤ length os
-      → over (coreAdds x (view (s .playhead .song)) t (coreOf s)) 0 (n * 2) (over cleared 0 (n * 2) os) ≡ outputOf (framesOf x view n s .made) ++ drop (n * 2) os
+      → over (coreAdds x (view (s .playhead .song)) t (coreOf s)) 0 (n * 2) (over cleared 0 (n * 2) os) ≡ outputOf (stretchOf x view n s .made) ++ drop (n * 2) os
   silent-output os l =
       ap (over (coreAdds x (view (s .playhead .song)) t (coreOf s)) 0 (n * 2)) (silent-sums (n * 2) os) ∙ run-output x view t s n tails lasting (omega arith) os l
 
 -- ---- one frame
 
 module _ (x : Settings) (view : View) (s : Stage) where
-  pub frame-stage : frameOf x view s .stage ≡ framesOf x view 1 s .at .core
-  unfolding framesOf run
+  pub frame-stage : frameOf x view s .stage ≡ stretchOf x view 1 s .at .core
+  unfolding stretchOf run
   frame-stage = refl
 
-  pub frame-output : (os : List Float) → 2 ≤ length os → set (set os 0 (frameOf x view s .out .left)) 1 (frameOf x view s .out .right) ≡ outputOf (framesOf x view 1 s .made) ++ drop 2 os
-  unfolding framesOf run
+  pub frame-output : (os : List Float) → 2 ≤ length os → set (set os 0 (frameOf x view s .out .left)) 1 (frameOf x view s .out .right) ≡ outputOf (stretchOf x view 1 s .made) ++ drop 2 os
+  unfolding stretchOf run
   frame-output [] l = absurd (omega arith)
   frame-output (a ∷ []) l = absurd (omega arith)
   frame-output (a ∷ b ∷ os) l = refl

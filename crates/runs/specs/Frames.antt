@@ -18,8 +18,8 @@ use Rattle.stage.specs.Ready.{FrameReady}
 use Rattle.stage.specs.Machine.{Told, machineOf}
 
 -- n frames of a stage, one by one
-unfoldable pub framesOf : Settings → View → ℕ → Stage → Ran Stage QueueRecord Pair Told
-framesOf x view n s = run (machineOf x view) n (stand s [])
+unfoldable pub stretchOf : Settings → View → ℕ → Stage → Ran Stage QueueRecord Pair Told
+stretchOf x view n s = run (machineOf x view) n (stand s [])
 
 -- at most so many can be made, into an output of so many samples
 pub record FramesReady (pool : List Float) (b : Bank) (most out : ℕ) (s : Stage) : Type 0 where

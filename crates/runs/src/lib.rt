@@ -15,7 +15,7 @@ ghost use Rattle.passes.specs.Adds.{ticksOf};
 ghost use Rattle.runs.specs.Voices.{voiceBy, voicesBy, Lasts, LastsIn, Still, streamOf, voiceOn, sums};
 ghost use Rattle.runs.specs.Core.{coreOf, coreMade, coreAfter, coreAdds, stageOn, CoreReady};
 ghost use Rattle.runs.specs.Run.{cursorBy, transportBy, tailBy, coreBy, endOf, Inside, Steady, Fading, Calm, partOf, songPart, overAdds, OverReady, slotOf};
-ghost use Rattle.runs.specs.Frames.{framesOf, FramesReady};
+ghost use Rattle.runs.specs.Frames.{stretchOf, FramesReady};
 use bank::Bank;
 use bank::Clip;
 use counts::ClockFrame;
@@ -637,7 +637,7 @@ pub fn frames_on(
     most: usize,
 ) -> Further
     requires { ⌜ FramesReady (now pool) bank most (length (now out)) stage ⌝ }
-    ensures { λ r. ⌜ (0 < r .frames) × (r .frames ≤ most) × (r .stage ≡ framesOf settings (viewOf (now (pool .entry)) bank) (r .frames) stage .at .core) × (now (out .exit) ≡ outputOf (framesOf settings (viewOf (now (pool .entry)) bank) (r .frames) stage .made) ++ drop (r .frames * 2) (now (out .entry))) ⌝ }
+    ensures { λ r. ⌜ (0 < r .frames) × (r .frames ≤ most) × (r .stage ≡ stretchOf settings (viewOf (now (pool .entry)) bank) (r .frames) stage .at .core) × (now (out .exit) ≡ outputOf (stretchOf settings (viewOf (now (pool .entry)) bank) (r .frames) stage .made) ++ drop (r .frames * 2) (now (out .entry))) ⌝ }
 {
     let playhead = stage.playhead;
     let handle = playhead.song;

@@ -13,8 +13,8 @@ first-at-requires c κs = search needs
 
 returns-2 : tie.Need-returns-2
 returns-2 c =
-    let a = c .before .before .before .before .before .before .args in
-    rw (due-at (a .queue .now) (a .s .queued) (a .s .stage .clock .0) (omega (arith, c .before .before .before .if1 .left)), c .before .before .first-at .ensures)
+    let a = c .before .before .before .before .before .args in
+    rw (due-at (a .queue .now) (a .queued) (a .clock .0) (omega (arith, c .before .before .before .if1 .left)), c .before .before .first-at .ensures)
 
 pub is-due-spec : {M : Type 1} → statement M
 is-due-spec = tie.close (tie.spec returns first-at-requires returns-2)
