@@ -3,3 +3,4 @@ pub mod Weighed
 pub mod Round
 pub mod Refusals
 pub mod Under
+mod Parts

@@ -72,6 +72,11 @@ module _ (h : HostSession) (q c : List ℕ) where
   unfolding weighHost
   weighed-fine named e f = rw (e, f)
 
+  -- where no session matches it is 1,
+  pub weighed-none : (named : Bool) → isSession h ≡ false → weighHost h q c named ≡ 1
+  unfolding weighHost
+  weighed-none named e = rw e
+
   -- what names no case is 255 where the session is well formed,
   pub weighed-unnamed : isSession h ≡ true → wellFormed (sessionOf h) q c ≡ true → weighHost h q c false ≡ 255
   unfolding weighHost

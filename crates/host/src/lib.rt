@@ -1,8 +1,10 @@
 //! The calls for C and Rust: a session without enums, by value in and out, and an exported function for each call.
 ghost use mathlib.Core.Path.{_≡_};
+ghost use mathlib.Core.Bool.{_&&_};
 ghost use mathlib.Core.List.{List, map};
 ghost use Prim.Native.Nat.{ℕ, _<_};
 ghost use lib.Ieee.{Float};
+ghost use Rattle.bank.specs.declared.Clip.{Clip};
 ghost use Rattle.host.specs.Kept.{isKind, kindOf, kindNumber, clipOf, clipNumbers, isState, stateOf, stateNumber, isFlag, flagOf, flagNumber, loopOf, loopNumbers, tailOf, tailNumbers, slotNamed, kindsOk, isSession, stageOf, sessionOf, hostOf};
 ghost use Rattle.host.specs.Arguments.{isSubmission, submissionOf, isAt, atOf, isSnapshot, snapshotOf, snapshotNumbers};
 ghost use Rattle.host.specs.Answers.{turned, weighHost, refused, answeredBy, loadRefused, loadedBy, openedBy, submitRefused, submittedBy, replayRefused, replayedBy, stopRefused, stoppedBy, noSnapshot, snapshotRefused, snappedBy, noMetrics, metricsRefused, meteredBy};
@@ -368,16 +370,19 @@ fn kinds_ok(h: HostSession) -> bool
     true
 }
 
+/// Each number names a case, if the kinds' do.
+fn all_named(kinds: bool, state: u32, looped: u32, sounding: u32, capturing: u32) -> bool
+    ensures { λ r. ⌜ r ≡ (kinds && isState state && isFlag looped && isFlag sounding && isFlag capturing) ⌝ }
+{
+    kinds & is_state(state) & is_flag(looped) & is_flag(sounding) & is_flag(capturing)
+}
+
 /// There is a session that it matches.
 fn is_session(h: HostSession) -> bool
     ensures { λ r. ⌜ r ≡ isSession h ⌝ }
 {
     let kinds = kinds_ok(h);
-    let state = is_state(h.state);
-    let looped = is_flag(h.looped.set);
-    let tail = is_flag(h.tail.sounding);
-    let capturing = is_flag(h.capturing);
-    kinds & state & looped & tail & capturing
+    all_named(kinds, h.state, h.looped.set, h.tail.sounding, h.capturing)
 }
 
 fn clips_of(h: HostSession) -> [Clip; 32]
@@ -442,6 +447,19 @@ fn stage_of(h: HostSession) -> Stage
     }
 }
 
+/// The desk that it matches.
+fn desk_of(h: HostSession) -> Desk
+    ensures { λ r. ⌜ r ≡ sessionOf h .desk ⌝ }
+{
+    Desk {
+        number: h.number,
+        deepest: h.deepest,
+        dropped: h.dropped,
+        capturing: flag_of(h.capturing),
+        captured: h.captured,
+    }
+}
+
 /// The session that it matches.
 fn session_of(h: HostSession) -> Session
     ensures { λ r. ⌜ r ≡ sessionOf h ⌝ }
@@ -451,30 +469,28 @@ fn session_of(h: HostSession) -> Session
         last: h.last,
         clips: clips_of(h),
     };
-    let desk = Desk {
-        number: h.number,
-        deepest: h.deepest,
-        dropped: h.dropped,
-        capturing: flag_of(h.capturing),
-        captured: h.captured,
-    };
     let settings = h.settings;
     Session {
         settings,
         bank,
         stage: stage_of(h),
         queued: h.queued,
-        desk,
+        desk: desk_of(h),
     }
 }
 
-/// A session as a host keeps it.
-fn host_of(s: Session) -> HostSession
-    ensures { λ r. ⌜ r ≡ hostOf s ⌝ }
+/// A session in its parts, with its clips as numbers, as a host keeps it.
+fn kept(
+    settings: Settings,
+    used: u32,
+    last: u32,
+    clips: [HostClip; 32],
+    stage: Stage,
+    queued: usize,
+    desk: Desk,
+) -> HostSession
+    ensures { λ r. ⌜ ((slots : List Clip) → clips ≡ map clipNumbers slots → r ≡ hostOf (record { settings = settings; bank = record { used = used; last = last; clips = slots }; stage = stage; queued = queued; desk = desk })) ⌝ }
 {
-    let settings = s.settings;
-    let bank = s.bank;
-    let stage = s.stage;
     let clock = stage.clock;
     let playhead = stage.playhead;
     let transport = playhead.transport;
@@ -489,12 +505,11 @@ fn host_of(s: Session) -> HostSession
     let tail = fade.tail;
     let voices = sound.voices;
     let counters = stage.counters;
-    let desk = s.desk;
     HostSession {
         settings,
-        used: bank.used,
-        last: bank.last,
-        clips: clips_numbers(bank),
+        used,
+        last,
+        clips,
         clock,
         state: state_number(state),
         position,
@@ -505,13 +520,25 @@ fn host_of(s: Session) -> HostSession
         tail: tail_numbers(tail),
         voices,
         counters,
-        queued: s.queued,
+        queued,
         number: desk.number,
         deepest: desk.deepest,
         dropped: desk.dropped,
         capturing: flag_number(desk.capturing),
         captured: desk.captured,
     }
+}
+
+/// A session as a host keeps it.
+fn host_of(s: Session) -> HostSession
+    ensures { λ r. ⌜ r ≡ hostOf s ⌝ }
+{
+    let settings = s.settings;
+    let bank = s.bank;
+    let clips = clips_numbers(bank);
+    let stage = s.stage;
+    let desk = s.desk;
+    kept(settings, bank.used, bank.last, clips, stage, s.queued, desk)
 }
 
 // ---- arguments
@@ -982,13 +1009,58 @@ pub extern "C" fn threshreed_block(
 ) -> HostAnswered
     ensures { λ r. ⌜ _≡_ {A = HostAnswered × List Float} (r, now (out .exit)) (blockHost h (now (queue .entry)) (now (capture .entry)) (now (pool .entry)) (now (out .entry))) ⌝ }
 {
-    let first = weigh(h, queue, capture, true);
-    if first != 0 {
-        return refused(first, h);
+    let c = h.clips[0];
+    let first = clip_of(c);
+    let mut bank = Bank {
+        used: h.used,
+        last: h.last,
+        clips: [first; 32],
+    };
+    let mut clips = h.clips;
+    let mut kinds = true;
+    let mut i: usize = 0;
+    while i < 32 {
+        let c = h.clips[i];
+        let clip = clip_of(c);
+        kinds = kinds & slot_named(h.used, i, c.kind);
+        bank.clips[i] = clip;
+        clips[i] = clip_numbers(clip);
+        i += 1;
     }
-    let s = session_of(h);
-    let r = block::block(s, queue, capture, pool, out);
-    answered(h, r)
+    if !all_named(kinds, h.state, h.looped.set, h.tail.sounding, h.capturing) {
+        return refused(1, h);
+    }
+    let settings = h.settings;
+    let stage = stage_of(h);
+    let desk = desk_of(h);
+    let made = block::make(
+        settings,
+        bank,
+        stage,
+        h.queued,
+        desk,
+        queue,
+        capture,
+        pool,
+        out,
+    );
+    let answer = made.answer;
+    let next = made.stage;
+    match answer {
+        Answer::Done => HostAnswered {
+            refusal: 0,
+            session: kept(
+                settings,
+                bank.used,
+                bank.last,
+                clips,
+                next,
+                made.queued,
+                desk,
+            ),
+        },
+        Answer::Refused(k) => refused(k.number(), h),
+    }
 }
 
 /// Starts capture, empty.
