@@ -18,13 +18,13 @@ use Rattle.oneshot.specs.Sounding.{Each}
 use Rattle.stage.specs.declared.Settings.{Settings}
 use Rattle.stage.specs.declared.Tail.{Tail}
 use Rattle.stage.specs.declared.Stage.{Stage}
-use Rattle.stage.specs.Sound.{only, withTail, tailOn, renderedOf}
+use Rattle.stage.specs.Sound.{only, sound, withTail, tailOn, renderedOf}
 use Rattle.stage.specs.Stage.{frameOf}
 use Rattle.stage.proofs.Keeps.{OfTail, tail-on}
 use Rattle.passes.proofs.Moving.{frame-left, frame-right}
 use Rattle.runs.specs.declared.Core.{Core}
 use Rattle.runs.specs.Voices.{voiceBy, voicesBy, Lasts, sumFrom}
-use Rattle.runs.specs.Core.{coreOf, stageOn, coreOn, coreGives, coreAfter, coreAdds}
+use Rattle.runs.specs.Core.{coreOf, coreOn, coreGives, coreAfter, coreAdds}
 use Rattle.runs.proofs.Voices.{by-none, mixed-frame}
 use Rattle.runs.proofs.Cores.{after-song}
 use Rattle.runs.proofs.Calm.{side-left, side-right}
@@ -36,6 +36,11 @@ map-none (v ∷ vs) = rw (by-none v, map-none vs) refl
 
 voices-none : (t : Voices) → voicesBy 0 t ≡ t
 voices-none t = rw (map-none (sounding t), take-append-drop (t .count) (t .table)) refl
+
+-- a stage n frames on, with its core there and its voices
+abbrev pub stageOn : Stage → Voices → ℕ → Core → Stage
+stageOn s v n c =
+    record { clock = record { 0 = s .clock .0 + n }; playhead = c .playhead; sound = sound (c .master) (c .fade .tail) v; counters = s .counters }
 
 -- where there is a tail, it sounds as t
 abbrev pub Tails : View → Recording → Tail → Type 0

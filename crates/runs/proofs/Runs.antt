@@ -25,9 +25,9 @@ use Rattle.passes.specs.Over.{over}
 use Rattle.passes.specs.Adds.{cleared}
 use Rattle.passes.proofs.Over.{length-over, over-again}
 use Rattle.runs.specs.Voices.{voicesBy, Lasts, sumFrom, sums}
-use Rattle.runs.specs.Core.{coreOf, stageOn, coreAfter, coreAdds}
+use Rattle.runs.specs.Core.{coreOf, coreAfter, coreAdds}
 use Rattle.runs.specs.Frames.{stretchOf}
-use Rattle.runs.proofs.Frames.{Tails, stageAt, outs, stage-none, stage-frame}
+use Rattle.runs.proofs.Frames.{Tails, stageOn, stageAt, outs, stage-none, stage-frame}
 
 -- ---- a pass that writes each place is the samples of its frames, and after them what stood there
 

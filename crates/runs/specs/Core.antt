@@ -1,5 +1,5 @@
 -- The core of a stage: the song, the master and the tail, frame by frame over sums of voices. Definitions only.
-use Prim.Native.Nat.{ℕ, zero, suc, _+_, _/_, _%_}
+use Prim.Native.Nat.{ℕ, zero, suc, _/_, _%_}
 use mathlib.Core.Path.{_≡_}
 use mathlib.Core.Bool.{true, cond}
 use lib.Dec.{eqb}
@@ -11,24 +11,18 @@ use Rattle.bank.specs.declared.Clip.{Clip}
 use Rattle.bank.specs.Slots.{extentOf}
 use Rattle.bank.specs.Recording.{Recording}
 use Rattle.oneshot.specs.declared.Pair.{Pair}
-use Rattle.oneshot.specs.declared.Voices.{Voices}
 use Rattle.oneshot.specs.Pair.{plus, times}
 use Rattle.oneshot.specs.Sounding.{LiesIn}
 use Rattle.stage.specs.declared.Settings.{Settings}
 use Rattle.stage.specs.declared.Stage.{Stage}
 use Rattle.stage.specs.Playhead.{movedOf}
-use Rattle.stage.specs.Sound.{sound, only, playedOf, withTail, tailOn}
+use Rattle.stage.specs.Sound.{only, playedOf, withTail, tailOn}
 use Rattle.runs.specs.declared.Core.{Core}
 use Rattle.runs.specs.declared.Made.{Made}
 
 -- a stage's
 abbrev pub coreOf : Stage → Core
 coreOf s = record { playhead = s .playhead; master = s .sound .master; fade = s .sound .fade }
-
--- a stage n frames on, with its core there and its voices
-abbrev pub stageOn : Stage → Voices → ℕ → Core → Stage
-stageOn s v n c =
-    record { clock = record { 0 = s .clock .0 + n }; playhead = c .playhead; sound = sound (c .master) (c .fade .tail) v; counters = s .counters }
 
 -- the side of a frame that stands at place k
 abbrev pub side : ℕ → Pair → Float

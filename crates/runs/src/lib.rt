@@ -13,7 +13,7 @@ ghost use Rattle.oneshot.specs.Sounding.{Each, Ready};
 ghost use Rattle.passes.specs.Over.{over};
 ghost use Rattle.passes.specs.Adds.{ticksOf};
 ghost use Rattle.runs.specs.Voices.{voiceBy, voicesBy, Lasts, LastsIn, Still, streamOf, voiceOn, sums};
-ghost use Rattle.runs.specs.Core.{coreOf, coreMade, coreAfter, coreAdds, stageOn, CoreReady};
+ghost use Rattle.runs.specs.Core.{coreMade, coreAfter, coreAdds, CoreReady};
 ghost use Rattle.runs.specs.Run.{cursorBy, transportBy, tailBy, coreBy, endOf, Inside, Steady, Fading, Calm, partOf, songPart, overAdds, OverReady, slotOf};
 ghost use Rattle.runs.specs.Frames.{stretchOf, FramesReady};
 use bank::Bank;
@@ -580,47 +580,6 @@ fn tail_slot(tail: Tail, song: Handle) -> u32
     }
 }
 
-/// So many frames of a stage over the sums that stand there, from a song's clip and a tail's; its voices are then these.
-fn over_stage(
-    stage: Stage,
-    voices: Voices,
-    settings: Settings,
-    pool: &[f32],
-    song: Clip,
-    clip: Clip,
-    out: &mut [f32],
-    n: usize,
-) -> Stage
-    requires { ⌜ CoreReady (length (now pool)) song clip (coreOf stage) × (n * 2 ≤ length (now out)) × (stage .clock .0 + n < 18446744073709551616) ⌝ }
-    ensures { λ r. ⌜ (r ≡ stageOn stage voices n (coreAfter settings (recordingOf (now (pool .entry)) song) (recordingOf (now (pool .entry)) clip) n (coreOf stage))) × (now (out .exit) ≡ over (coreAdds settings (recordingOf (now (pool .entry)) song) (recordingOf (now (pool .entry)) clip) (coreOf stage)) 0 (n * 2) (now (out .entry))) ⌝ }
-{
-    let playhead = stage.playhead;
-    let sound = stage.sound;
-    let master = sound.master;
-    let fade = sound.fade;
-    let core = Core {
-        playhead: playhead,
-        master: master,
-        fade: fade,
-    };
-    let next = over_frames(core, settings, pool, song, clip, out, n);
-    let next_playhead = next.playhead;
-    let next_master = next.master;
-    let next_fade = next.fade;
-    let clock = stage.clock.0 + n as u64;
-    let counters = stage.counters;
-    Stage {
-        clock: ClockFrame(clock),
-        playhead: next_playhead,
-        sound: Sound {
-            master: next_master,
-            fade: next_fade,
-            voices: voices,
-        },
-        counters: counters,
-    }
-}
-
 /// A stage so many frames on.
 pub struct Further {
     pub stage: Stage,
@@ -648,13 +607,33 @@ pub fn frames_on(
     let tail = fade.tail;
     let tslot = tail_slot(tail, handle) as usize;
     let clip = bank.clips[tslot];
+    let master = sound.master;
+    let core = Core {
+        playhead: playhead,
+        master: master,
+        fade: fade,
+    };
+    let counters = stage.counters;
     let voices = sound.voices;
     if voices.count == 0 {
         let places = most * 2;
         passes::clear(&mut out[..], places);
-        let next = over_stage(stage, voices, settings, pool, song, clip, out, most);
+        let next = over_frames(core, settings, pool, song, clip, out, most);
+        let next_playhead = next.playhead;
+        let next_master = next.master;
+        let next_fade = next.fade;
+        let clock = stage.clock.0 + most as u64;
         return Further {
-            stage: next,
+            stage: Stage {
+                clock: ClockFrame(clock),
+                playhead: next_playhead,
+                sound: Sound {
+                    master: next_master,
+                    fade: next_fade,
+                    voices: voices,
+                },
+                counters: counters,
+            },
             frames: most,
         };
     }
@@ -671,9 +650,22 @@ pub fn frames_on(
         };
     }
     let next_voices = mix_on(voices, pool, bank, &mut out[..], ahead);
-    let next = over_stage(stage, next_voices, settings, pool, song, clip, out, ahead);
+    let next = over_frames(core, settings, pool, song, clip, out, ahead);
+    let next_playhead = next.playhead;
+    let next_master = next.master;
+    let next_fade = next.fade;
+    let clock = stage.clock.0 + ahead as u64;
     Further {
-        stage: next,
+        stage: Stage {
+            clock: ClockFrame(clock),
+            playhead: next_playhead,
+            sound: Sound {
+                master: next_master,
+                fade: next_fade,
+                voices: next_voices,
+            },
+            counters: counters,
+        },
         frames: ahead,
     }
 }

@@ -88,27 +88,34 @@ mul-places c = search needs
 clear-requires : tie.Need-clear-requires
 clear-requires c κs = search needs
 
-over-stage-requires : tie.Need-over-stage-requires
-over-stage-requires c κs =
-    let s = c .before .before .before .before .before .before .before .before .before .before .before .before .before .before .before .before .before .before in
-    (rw (c .before .before .before .before .before .before .before .before .before .tail-slot .ensures) (ready s), rw (c .before .before .before .clear .ensures) (omega (arith, length-over cleared 0 (s .args .most * 2) (s .args .out .now), s .pre .room)), s .pre .clock)
+over-frames-requires : tie.Need-over-frames-requires
+over-frames-requires c κs =
+    let s = c .before .before .before .before .before .before .before .before .before .before .before .before .before .before .before .before .before .before .before .before in
+    (rw (c .before .before .before .before .before .before .before .before .before .before .before .tail-slot .ensures) (ready s), rw (c .before .before .before .clear .ensures) (omega (arith, length-over cleared 0 (s .args .most * 2) (s .args .out .now), s .pre .room)))
+
+add-clock : tie.Need-add-clock
+add-clock c =
+    let s = c .before .before .before .before .before .before .before .before .before .before .before .before .before .before .before .before .before .before .before .before .before .before .before .before .before .before .before in
+    omega (arith, s .pre .clock)
 
 same-length : tie.Need-same-length
-same-length c = search needs
+same-length c =
+    let s = c .before .before .before .before .before .before .before .before .before .before .before .before .before .before .before .before .before .before .before .before .before .before .before .before .before .before .before in
+    ap length (c .before .before .before .before .before .before .over-frames .ensures .1) ∙ length-over _ 0 (s .args .most * 2) _ ∙ ap length (c .before .before .before .before .before .before .before .before .before .before .clear .ensures) ∙ length-over cleared 0 (s .args .most * 2) (s .args .out .now)
 
 returns : tie.Need-returns
 unfolding stageAt viewOf
 returns c =
-    let s = c .before .before .before .before .before .before .before .before .before .before .before .before .before .before .before .before .before .before .before .before .before in
-    let o = c .before .before .over-stage .ensures in
-    let k = c .before .before .before .before .before .before .before .before .before .before .before .before .tail-slot .ensures in
-    let z = c .before .before .before .before .before .before .before .before .if1 .taken in
+    let s = c .before .before .before .before .before .before .before .before .before .before .before .before .before .before .before .before .before .before .before .before .before .before .before .before .before .before .before in
+    let o = c .before .before .before .before .before .before .over-frames .ensures in
+    let k = c .before .before .before .before .before .before .before .before .before .before .before .before .before .before .before .before .before .before .tail-slot .ensures in
+    let z = c .before .before .before .before .before .before .before .before .before .before .before .before .if1 .taken in
     let view = viewOf (s .args .pool .now) (s .args .t4) in
     let t = recordingOf (s .args .pool .now) (tailIn s) in (
       s .pre .some,
       omega arith,
       rw (o .0, k, ← song s) (silent-stage (s .args .settings) view t (s .args .stage) (s .args .most) (tails s) z),
-      rw (o .1, c .before .before .before .before .before .before .clear .ensures, k, ← song s) (silent-output (s .args .settings) view t (s .args .stage) (s .args .most) (tails s) z (s .args .out .now) (s .pre .room)),
+      rw (o .1, c .before .before .before .before .before .before .before .before .before .before .clear .ensures, k, ← song s) (silent-output (s .args .settings) view t (s .args .stage) (s .args .most) (tails s) z (s .args .out .now) (s .pre .room)),
     )
 
 voices-ahead-requires : tie.Need-voices-ahead-requires
@@ -119,12 +126,12 @@ frame-requires c κs = search needs
 
 slice-write-out : tie.Need-slice-write-out
 slice-write-out c =
-    let s = c .before .before .before .before .before .before .before .before .before .before .before .before .before .before .before .before .before in
+    let s = c .before .before .before .before .before .before .before .before .before .before .before .before .before .before .before .before .before .before .before in
     omega (arith, s .pre .some, s .pre .room)
 
 slice-write-out-2 : tie.Need-slice-write-out-2
 slice-write-out-2 c =
-    let s = c .before .before .before .before .before .before .before .before .before .before .before .before .before .before .before .before .before in
+    let s = c .before .before .before .before .before .before .before .before .before .before .before .before .before .before .before .before .before .before .before in
     simp length-set (omega (arith, s .pre .some, s .pre .room))
 
 same-length-2 : tie.Need-same-length-2
@@ -132,7 +139,7 @@ same-length-2 c = search needs
 
 returns-2 : tie.Need-returns-2
 returns-2 c =
-    let s = c .before .before .before .before .before .before .before .before .before .before .before .before .before .before .before .before .before .before in
+    let s = c .before .before .before .before .before .before .before .before .before .before .before .before .before .before .before .before .before .before .before .before in
     let f = c .before .before .frame .ensures in
     let view = viewOf (s .args .pool .now) (s .args .t4) in (
       omega arith,
@@ -143,29 +150,36 @@ returns-2 c =
 
 mix-on-requires : tie.Need-mix-on-requires
 mix-on-requires c κs =
-    let s = c .before .before .before .before .before .before .before .before .before .before .before .before .before .before .before .before in
+    let s = c .before .before .before .before .before .before .before .before .before .before .before .before .before .before .before .before .before .before in
     let a = c .before .before .voices-ahead .ensures in (s .pre .ready .sound .voices, a .1, omega (arith, a .0, s .pre .room))
 
-over-stage-requires-2 : tie.Need-over-stage-requires-2
-over-stage-requires-2 c κs =
-    let s = c .before .before .before .before .before .before .before .before .before .before .before .before .before .before .before .before .before .before .before .before in
+over-frames-requires-2 : tie.Need-over-frames-requires-2
+over-frames-requires-2 c κs =
+    let s = c .before .before .before .before .before .before .before .before .before .before .before .before .before .before .before .before .before .before .before .before .before .before in
     let a = c .before .before .before .before .before .before .voices-ahead .ensures in
-    (rw (c .before .before .before .before .before .before .before .before .before .before .before .tail-slot .ensures) (ready s), rw (c .before .before .before .mix-on .ensures .1) (omega (arith, sums-length s (c .before .before .before .before .before .before .voices-ahead .result), a .0, s .pre .room)), omega (arith, a .0, s .pre .clock))
+    (rw (c .before .before .before .before .before .before .before .before .before .before .before .before .before .tail-slot .ensures) (ready s), rw (c .before .before .before .mix-on .ensures .1) (omega (arith, sums-length s (c .before .before .before .before .before .before .voices-ahead .result), a .0, s .pre .room)))
+
+add-clock-2 : tie.Need-add-clock-2
+add-clock-2 c =
+    let s = c .before .before .before .before .before .before .before .before .before .before .before .before .before .before .before .before .before .before .before .before .before .before .before .before .before .before .before .before .before in
+    omega (arith, c .before .before .before .before .before .before .before .before .before .before .before .before .before .voices-ahead .ensures .0, s .pre .clock)
 
 same-length-3 : tie.Need-same-length-3
-same-length-3 c = search needs
+same-length-3 c =
+    let s = c .before .before .before .before .before .before .before .before .before .before .before .before .before .before .before .before .before .before .before .before .before .before .before .before .before .before .before .before .before in
+    let v = c .before .before .before .before .before .before .before .before .before .before .before .before .before .voices-ahead .result in ap length (c .before .before .before .before .before .before .over-frames2 .ensures .1) ∙ length-over _ 0 (v * 2) _ ∙ ap length (c .before .before .before .before .before .before .before .before .before .before .mix-on .ensures .1) ∙ sums-length s v
 
 returns-3 : tie.Need-returns-3
 unfolding stageAt viewOf
 returns-3 c =
-    let s = c .before .before .before .before .before .before .before .before .before .before .before .before .before .before .before .before .before .before .before .before .before .before .before in
-    let a = c .before .before .before .before .before .before .before .before .before .voices-ahead .ensures in
-    let m = c .before .before .before .before .before .before .mix-on .ensures in
-    let o = c .before .before .over-stage2 .ensures in
-    let k = c .before .before .before .before .before .before .before .before .before .before .before .before .before .before .tail-slot .ensures in
+    let s = c .before .before .before .before .before .before .before .before .before .before .before .before .before .before .before .before .before .before .before .before .before .before .before .before .before .before .before .before .before in
+    let a = c .before .before .before .before .before .before .before .before .before .before .before .before .before .voices-ahead .ensures in
+    let m = c .before .before .before .before .before .before .before .before .before .before .mix-on .ensures in
+    let o = c .before .before .before .before .before .before .over-frames2 .ensures in
+    let k = c .before .before .before .before .before .before .before .before .before .before .before .before .before .before .before .before .before .before .before .before .tail-slot .ensures in
     let view = viewOf (s .args .pool .now) (s .args .t4) in
     let t = recordingOf (s .args .pool .now) (tailIn s) in (
-      omega (arith, c .before .before .before .before .before .before .before .before .if2 .left),
+      omega (arith, c .before .before .before .before .before .before .before .before .before .before .before .before .if2 .left),
       a .0,
       rw (o .0, m .0, k, ← song s) (run-stage (s .args .settings) view t (s .args .stage) _ (tails s) (a .1) (sixteen s)),
       rw (o .1, m .1, k, ← song s) (run-output (s .args .settings) view t (s .args .stage) _ (tails s) (a .1) (sixteen s) (s .args .out .now) (omega (arith, a .0, s .pre .room))),
@@ -184,7 +198,8 @@ frames-on-spec =
     element-copy-out-clip
     mul-places
     clear-requires
-    over-stage-requires
+    over-frames-requires
+    add-clock
     same-length
     returns
     voices-ahead-requires
@@ -194,6 +209,7 @@ frames-on-spec =
     same-length-2
     returns-2
     mix-on-requires
-    over-stage-requires-2
+    over-frames-requires-2
+    add-clock-2
     same-length-3
     returns-3)
