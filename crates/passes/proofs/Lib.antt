@@ -1,8 +1,8 @@
 pub mod Over
 pub mod Passing
-pub mod Moving
-pub mod Both
 pub mod Ticks
+pub mod Moving
 pub mod Parts
+pub mod Both
 pub mod Order
 pub mod Four

@@ -65,6 +65,15 @@ over-same f g from os zero h = refl
 over-same f g from os (suc n) h =
     rw (over-same f g from os n (λ k a b x. h k a (omega arith) x), h (from + n) (omega arith) (omega arith) (getD os (from + n) nan)) refl
 
+-- the places that are left, by a rule that makes the same of each of them
+pub over-rest : (f g : ℕ → Float → Float) (from a n : ℕ) (os : List Float) → from ≤ a → a ≤ n → ((k : ℕ) → a ≤ k → k < n → (x : Float) → g k x ≡ f k x)
+    → over g a (n - a) (over f from (a - from) os) ≡ over f from (n - from) os
+over-rest f g from a n os l u h =
+    let e : a - from + (n - a) ≡ n - from = omega arith in
+    over-same g f a (over f from (a - from) os) (n - a) (λ k b c x. h k b (omega arith) x)
+    ∙ over-split f from (a - from) a (omega arith) os (n - a)
+    ∙ ap (λ k. over f from k os) e
+
 -- a pass after a pass over the same places
 pub over-again : (f g : ℕ → Float → Float) (n : ℕ) (os : List Float) → n ≤ length os → over f 0 n (over g 0 n os) ≡ over (λ k x. f k (g k x)) 0 n os
 over-again f g n os l =

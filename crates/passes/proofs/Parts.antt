@@ -1,30 +1,40 @@
--- A part over a run: where its ramp moves and where it stands still are one pass. Assumes nothing.
-use mathlib.Core.Path.{_≡_, refl, sym, ap, _∙_}
+-- A part over a run: where its ramp rises and where its value stays are one pass. Assumes nothing.
+use mathlib.Core.Path.{_≡_, sym, ap, _∙_}
 use mathlib.Core.List.{List}
-use mathlib.Core.Logic.{⊎-elim}
-use Prim.Native.Nat.{ℕ, _+_, _-_, _*_, _/_, _≤_, _<_, min}
+use Prim.Native.Nat.{ℕ, _+_, _-_, _*_, _/_, _≤_, _<_}
+use native.Mathlib.Numerals.{unary-clauses}
 use native.Mathlib.Omega.{arith}
-use lib.Ieee.{Float, binary32, add, mul}
+use lib.ListN.{getD, set}
+use lib.Ieee.{Float, nan, binary32, add, mul}
 use Rattle.ramp.specs.declared.Ramp.{Ramp}
+use Rattle.ramp.specs.Ramp.{tickOf}
 use Rattle.passes.specs.declared.Part.{Part}
 use Rattle.passes.specs.Over.{over}
 use Rattle.passes.specs.Adds.{shareOf, ticksOf, gainAt, stillAdds, adds}
-use Rattle.passes.proofs.Over.{lt-or-ge, over-split, over-same}
-use Rattle.passes.proofs.Ticks.{ticks-landed, gain-landed}
+use Rattle.passes.proofs.Over.{over-rest}
+use Rattle.passes.proofs.Moving.{Moving, moving-gain, moving-turn, frame-left, frame-right}
+use Rattle.passes.proofs.Ticks.{ticks-on, ticks-held, gain-held}
 
-module _ (r : Ramp) (n m : ℕ) (e : m ≡ min (r .remaining) n) where
-  pub part-ramp : ticksOf m r ≡ ticksOf n r
-  part-ramp =
-      ⊎-elim
-      (λ (h : m < n). sym (ticks-landed m n r (omega arith) (omega arith)))
-      (λ (h : n ≤ m). let q : m ≡ n = omega arith in rw q refl)
-      (lt-or-ge m n)
+module _ (pool : List Float) (p : Part) (r₀ : Ramp) (n : ℕ) (os : List Float) where
+  pub part-turn : {o : List Float} {r : Ramp} {j : ℕ} → Moving (adds pool p r₀) r₀ 0 n os o r j → j < n
+      → (x y : Float) → x ≡ shareOf pool p (j * 2) → y ≡ shareOf pool p (j * 2 + 1) → (r' : Ramp) → r' ≡ tickOf r .ramp
+      → let o' : List Float = set o (j * 2) (add binary32 (getD o (j * 2) nan) (mul binary32 x (r' .value))) in
+      Moving (adds pool p r₀) r₀ 0 n os (set o' (j * 2 + 1) (add binary32 (getD o' (j * 2 + 1) nan) (mul binary32 y (r' .value)))) r' (j + 1)
+  part-turn {o} {r} {j} m h x y ex ey r' e =
+      let z : j - 0 ≡ j = omega arith in
+      let v : r' .value ≡ gainAt r₀ j = moving-gain (adds pool p r₀) r₀ 0 n os m r' e ∙ ap (gainAt r₀) z in
+      rw (frame-left j, frame-right j, ← v, ← ex, ← ey) at (moving-turn (adds pool p r₀) r₀ 0 n os m h r' e)
 
-  pub part-done : (pool : List Float) (p : Part) (os : List Float)
-      → over (stillAdds pool p (ticksOf m r .value)) (m * 2) (n * 2 - m * 2) (over (adds pool p r) 0 (m * 2) os) ≡ over (adds pool p r) 0 (n * 2) os
-  part-done pool p os =
-      let q : m * 2 + (n * 2 - m * 2) ≡ n * 2 = omega arith in
-      over-same (stillAdds pool p (ticksOf m r .value)) (adds pool p r) (m * 2) _ (n * 2 - m * 2)
-      (λ k a b x. ap (λ g. add binary32 x (mul binary32 (shareOf pool p k) g)) (sym (gain-landed m (k / 2) r (omega arith) (omega arith))))
-      ∙ over-split (adds pool p r) 0 (m * 2) (m * 2) (omega arith) os (n * 2 - m * 2)
-      ∙ ap (λ k. over (adds pool p r) 0 k os) q
+  -- m frames of n, and then a tick after which the value stays
+  module _ (m : ℕ) (l : m < n) (h : r₀ .remaining ≤ m + 1) (r : Ramp) (e : r ≡ tickOf (ticksOf m r₀) .ramp) where
+    landed : r ≡ ticksOf (m + 1) r₀
+    landed = e ∙ ticks-on m r₀
+
+    pub part-ramp : r ≡ ticksOf n r₀
+    part-ramp = landed ∙ sym (ticks-held r₀ m n (λ i. h) n l (omega arith))
+
+    pub part-done : over (stillAdds pool p (r .value)) (m * 2) (n * 2 - m * 2) (over (adds pool p r₀) 0 (m * 2) os) ≡ over (adds pool p r₀) 0 (n * 2) os
+    part-done =
+        simp unary-clauses at
+        (over-rest (adds pool p r₀) (stillAdds pool p (r .value)) 0 (m * 2) (n * 2) os (omega arith) (omega arith)
+        (λ k a b x. ap (λ g. add binary32 x (mul binary32 (shareOf pool p k) g)) (ap (λ u. u .value) landed ∙ sym (gain-held r₀ m n (λ i. h) (k / 2) (omega arith) (omega arith)))))

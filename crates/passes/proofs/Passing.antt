@@ -31,9 +31,9 @@ module _ (f : ℕ → Float → Float) (from to : ℕ) (os : List Float) where
     pass-end h = let e : k ≡ to = omega (arith, p .high) in rw (← e) (p .so)
 
 -- a turn that passes a whole frame, its left place and then its right one
-pub pass-frame : (f : ℕ → Float → Float) (to : ℕ) (os o : List Float) (j : ℕ) → Passing f 0 to os o (j * 2) → j * 2 + 1 < to
+pub pass-frame : (f : ℕ → Float → Float) (from to : ℕ) (os o : List Float) (j : ℕ) → Passing f from to os o (j * 2) → j * 2 + 1 < to
     → let o' : List Float = set o (j * 2) (f (j * 2) (getD o (j * 2) nan)) in
-    Passing f 0 to os (set o' (j * 2 + 1) (f (j * 2 + 1) (getD o' (j * 2 + 1) nan))) ((j + 1) * 2)
-pass-frame f to os o j p h =
+    Passing f from to os (set o' (j * 2 + 1) (f (j * 2 + 1) (getD o' (j * 2 + 1) nan))) ((j + 1) * 2)
+pass-frame f from to os o j p h =
     let e : (j + 1) * 2 ≡ j * 2 + 1 + 1 = omega arith in
-    rw e (pass-turn f 0 to os (pass-turn f 0 to os p (omega arith)) h)
+    rw e (pass-turn f from to os (pass-turn f from to os p (omega arith)) h)

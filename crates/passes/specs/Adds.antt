@@ -1,5 +1,5 @@
 -- What the passes of a run make of each place. Definitions only.
-use Prim.Native.Nat.{ℕ, zero, suc, _+_, _/_, _≤_}
+use Prim.Native.Nat.{ℕ, zero, suc, _+_, _-_, _/_, _≤_}
 use mathlib.Core.Path.{_≡_}
 use mathlib.Core.Bool.{true, cond}
 use mathlib.Core.List.{List}
@@ -49,7 +49,14 @@ fourAdds pool a b c d k x = streamAdds pool d k (streamAdds pool c k (streamAdds
 abbrev pub adds : List Float → Part → Ramp → ℕ → Float → Float
 adds pool p r k x = add binary32 x (mul binary32 (shareOf pool p k) (gainAt r (k / 2)))
 
--- the song × the master, plus the tail × its weight, and that before what stands there
+-- the song × a, plus the tail × b, and that before what stands there
+abbrev pub bothBy : List Float → Part → Part → Float → Float → ℕ → Float → Float
+bothBy pool s t a b k x = add binary32 (add binary32 (mul binary32 (shareOf pool s k) a) (mul binary32 (shareOf pool t k) b)) x
+
+-- by the master and the tail's weight
 abbrev pub bothAdds : List Float → Part → Part → Ramp → Ramp → ℕ → Float → Float
-bothAdds pool s t g w k x =
-    add binary32 (add binary32 (mul binary32 (shareOf pool s k) (gainAt g (k / 2))) (mul binary32 (shareOf pool t k) (gainAt w (k / 2)))) x
+bothAdds pool s t g w k x = bothBy pool s t (gainAt g (k / 2)) (gainAt w (k / 2)) k x
+
+-- by a gain that stands still and a weight that begins in frame j
+abbrev pub stillBoth : List Float → Part → Part → ℕ → Float → Ramp → ℕ → Float → Float
+stillBoth pool s t j g w k x = bothBy pool s t g (gainAt w (k / 2 - j)) k x

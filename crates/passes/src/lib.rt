@@ -4,8 +4,9 @@ ghost use mathlib.Core.Bool.{true};
 ghost use Prim.Native.Nat.{_+_, _-_, _*_, _≤_, _<_, min};
 ghost use lib.ListN.{length};
 ghost use Rattle.ramp.specs.Number.{zero32};
+ghost use Rattle.ramp.specs.Ramp.{tickOf};
 ghost use Rattle.passes.specs.Over.{over};
-ghost use Rattle.passes.specs.Adds.{shareOf, ticksOf, stillAdds, streamAdds, fourAdds, adds, bothAdds, cleared, Reads};
+ghost use Rattle.passes.specs.Adds.{shareOf, ticksOf, stillAdds, streamAdds, fourAdds, adds, bothAdds, stillBoth, cleared, Reads};
 use ramp::Ramp;
 
 /// Where in the pool a run's samples stand, or that it is silent.
@@ -91,50 +92,113 @@ pub fn add_four(
     }
 }
 
-/// A part × a ramp is added to so many frames. The ramp that they leave.
-pub fn add_moving(pool: &[f32], part: Part, out: &mut [f32], frames: usize, ramp: Ramp) -> Ramp
-    requires { ⌜ (frames * 2 ≤ length (now out)) × Reads (length (now pool)) part (frames * 2) ⌝ }
+/// A ramp that does not land, a frame on.
+fn rise(mut r: Ramp) -> Ramp
+    requires { ⌜ 1 < r .remaining ⌝ }
+    ensures { λ s. ⌜ s ≡ tickOf r .ramp ⌝ }
+{
+    r.value += r.step;
+    r.remaining -= 1;
+    r
+}
+
+/// A part × a ramp that does not land is added to so many frames. The ramp that they leave.
+fn add_rising(pool: &[f32], part: Part, out: &mut [f32], frames: usize, ramp: Ramp) -> Ramp
+    requires { ⌜ (frames * 2 ≤ length (now out)) × Reads (length (now pool)) part (frames * 2) × (frames ≤ ramp .remaining - 1) ⌝ }
     ensures { λ r. ⌜ (r ≡ ticksOf frames ramp) × (now (out .exit) ≡ over (adds (now (pool .entry)) part ramp) 0 (frames * 2) (now (out .entry))) ⌝ }
 {
     let mut r = ramp;
     let mut j: usize = 0;
     while j < frames {
-        let t = r.tick();
-        let g = t.value;
+        let next = rise(r);
+        let g = next.value;
         let k = j * 2;
-        let x = share(pool, part, k);
         let n = k + 1;
+        let x = share(pool, part, k);
         let y = share(pool, part, n);
         out[k] = out[k] + x * g;
         out[n] = out[n] + y * g;
-        r = t.ramp;
+        r = next;
         j += 1;
     }
     r
 }
 
-/// Of so many frames those in which a ramp moves.
-pub fn moves(ramp: Ramp, frames: usize) -> usize
-    ensures { λ r. ⌜ r ≡ min (ramp .remaining) frames ⌝ }
+/// Of so many frames those in which a ramp moves and does not land.
+fn rises(ramp: Ramp, frames: usize) -> usize
+    ensures { λ r. ⌜ r ≡ min (ramp .remaining - 1) frames ⌝ }
 {
-    let left = ramp.remaining as usize;
+    if ramp.remaining == 0 {
+        return 0;
+    }
+    let left = (ramp.remaining - 1) as usize;
     if left < frames {
         return left;
     }
     frames
 }
 
-/// A part × a ramp is added to so many frames: first where it moves, then where it stands still. The ramp that they leave.
+/// A part × a ramp is added to so many frames: first where it moves and does not land, then where its value stays. The ramp that they leave.
 pub fn add_part(pool: &[f32], part: Part, out: &mut [f32], frames: usize, ramp: Ramp) -> Ramp
     requires { ⌜ (frames * 2 ≤ length (now out)) × Reads (length (now pool)) part (frames * 2) ⌝ }
     ensures { λ r. ⌜ (r ≡ ticksOf frames ramp) × (now (out .exit) ≡ over (adds (now (pool .entry)) part ramp) 0 (frames * 2) (now (out .entry))) ⌝ }
 {
-    let moving = moves(ramp, frames);
-    let r = add_moving(pool, part, &mut out[..], moving, ramp);
-    let from = moving * 2;
+    let rising = rises(ramp, frames);
+    let risen = add_rising(pool, part, &mut out[..], rising, ramp);
+    if rising == frames {
+        return risen;
+    }
+    // In the next frame it lands, or nothing remains: from there on the value stays.
+    let t = risen.tick();
+    let r = t.ramp;
+    let from = rising * 2;
     let to = frames * 2;
     add_still(pool, part, &mut out[..], from, to, r.value);
     r
+}
+
+/// From a frame to a frame the song × a gain that stands still, plus the tail × a weight that does not land, and that before what stands there. The weight that they leave.
+fn add_both_still(
+    pool: &[f32],
+    song: Part,
+    tail: Part,
+    out: &mut [f32],
+    from: usize,
+    to: usize,
+    gain: f32,
+    weight: Ramp,
+) -> Ramp
+    requires { ⌜ (from ≤ to) × (to * 2 ≤ length (now out)) × Reads (length (now pool)) song (to * 2) × Reads (length (now pool)) tail (to * 2) × (to - from < weight .remaining) ⌝ }
+    ensures { λ r. ⌜ (r ≡ ticksOf (to - from) weight) × (now (out .exit) ≡ over (stillBoth (now (pool .entry)) song tail from gain weight) (from * 2) (to * 2 - from * 2) (now (out .entry))) ⌝ }
+{
+    let mut w = weight;
+    let mut j = from;
+    while j < to {
+        let next = rise(w);
+        let b = next.value;
+        let k = j * 2;
+        let n = k + 1;
+        let x = share(pool, song, k);
+        let y = share(pool, tail, k);
+        let z = share(pool, song, n);
+        let v = share(pool, tail, n);
+        out[k] = (x * gain + y * b) + out[k];
+        out[n] = (z * gain + v * b) + out[n];
+        w = next;
+        j += 1;
+    }
+    w
+}
+
+/// Up to which of so many frames a ramp's value in frame `j` stays: to the end if nothing remains, else for that frame alone.
+fn stays_to(ramp: Ramp, j: usize, frames: usize) -> usize
+    requires { ⌜ j < frames ⌝ }
+    ensures { λ r. ⌜ (j < r) × (r ≤ frames) × (j + 1 < r → ramp .remaining ≡ 0) ⌝ }
+{
+    if ramp.remaining == 0 {
+        return frames;
+    }
+    j + 1
 }
 
 /// The master and the tail's weight.
@@ -143,7 +207,7 @@ pub struct Gains {
     pub weight: Ramp,
 }
 
-/// In so many frames the song × the master, plus the tail × its weight, and that before what stands there. The ramps that they leave.
+/// In so many frames the song × the master, plus the tail × a weight that does not land, and that before what stands there. The ramps that they leave.
 pub fn add_both(
     pool: &[f32],
     song: Part,
@@ -153,28 +217,18 @@ pub fn add_both(
     master: Ramp,
     weight: Ramp,
 ) -> Gains
-    requires { ⌜ (frames * 2 ≤ length (now out)) × Reads (length (now pool)) song (frames * 2) × Reads (length (now pool)) tail (frames * 2) ⌝ }
+    requires { ⌜ (frames * 2 ≤ length (now out)) × Reads (length (now pool)) song (frames * 2) × Reads (length (now pool)) tail (frames * 2) × (frames < weight .remaining) ⌝ }
     ensures { λ r. ⌜ (r .master ≡ ticksOf frames master) × (r .weight ≡ ticksOf frames weight) × (now (out .exit) ≡ over (bothAdds (now (pool .entry)) song tail master weight) 0 (frames * 2) (now (out .entry))) ⌝ }
 {
     let mut g = master;
     let mut w = weight;
     let mut j: usize = 0;
     while j < frames {
-        let tg = g.tick();
-        let tw = w.tick();
-        let a = tg.value;
-        let b = tw.value;
-        let k = j * 2;
-        let n = k + 1;
-        let x = share(pool, song, k);
-        let y = share(pool, tail, k);
-        let z = share(pool, song, n);
-        let v = share(pool, tail, n);
-        out[k] = (x * a + y * b) + out[k];
-        out[n] = (z * a + v * b) + out[n];
-        g = tg.ramp;
-        w = tw.ramp;
-        j += 1;
+        let t = g.tick();
+        g = t.ramp;
+        let to = stays_to(g, j, frames);
+        w = add_both_still(pool, song, tail, &mut out[..], j, to, g.value, w);
+        j = to;
     }
     Gains {
         master: g,

@@ -1,7 +1,8 @@
 -- `passes::add_both` meets its contract. Assumes nothing.
+use mathlib.Core.Path.{ap}
 use Prim.Native.Nat.{_-_}
 use native.Mathlib.Omega.{arith}
-use lib.ListN.{length-set}
+use Rattle.passes.proofs.Moving.{moving-remaining}
 use Rattle.passes.proofs.Both.{Both, both-start, both-turn, both-end}
 use borrow.Author.Needs.{needs}
 use Rattle.passes.proofs.add_both.Statement.{statement}
@@ -19,62 +20,27 @@ loop-holds c = both-start _ _ _ _ _ _ _
 tick-requires : tie.Need-tick-requires Inv-loop μ-loop
 tick-requires c κs = search needs
 
-tick-requires-2 : tie.Need-tick-requires-2 Inv-loop μ-loop
-tick-requires-2 c κs = search needs
+stays-to-requires : tie.Need-stays-to-requires Inv-loop μ-loop
+stays-to-requires c κs = search needs
 
-mul-k : tie.Need-mul-k Inv-loop μ-loop
-mul-k c = search needs
-
-add-n : tie.Need-add-n Inv-loop μ-loop
-add-n c = search needs
-
-share-requires : tie.Need-share-requires Inv-loop μ-loop
-share-requires c κs = λ e. omega (arith, c .before .before .before .loop .inv, c .before .before .before .before .before .before .pre .1 e)
-
-share-requires-2 : tie.Need-share-requires-2 Inv-loop μ-loop
-share-requires-2 c κs = λ e. omega (arith, c .before .before .before .before .loop .inv, c .before .before .before .before .before .before .before .pre .2 e)
-
-share-requires-3 : tie.Need-share-requires-3 Inv-loop μ-loop
-share-requires-3 c κs = λ e. omega (arith, c .before .before .before .before .before .loop .inv, c .before .before .before .before .before .before .before .before .pre .1 e)
-
-share-requires-4 : tie.Need-share-requires-4 Inv-loop μ-loop
-share-requires-4 c κs = λ e. omega (arith, c .before .before .before .before .before .before .loop .inv, c .before .before .before .before .before .before .before .before .before .pre .2 e)
-
-mul-out : tie.Need-mul-out Inv-loop μ-loop
-mul-out c = search needs
-
-slice-read-out : tie.Need-slice-read-out Inv-loop μ-loop
-slice-read-out c = search needs
-
-mul-out-2 : tie.Need-mul-out-2 Inv-loop μ-loop
-mul-out-2 c = omega (arith, c .before .before .before .before .before .before .before .before .loop .inv, c .before .before .before .before .before .before .before .before .before .before .before .good .1 .1 .1 .0)
-
-slice-write-out : tie.Need-slice-write-out Inv-loop μ-loop
-slice-write-out c = search needs
-
-mul-out-3 : tie.Need-mul-out-3 Inv-loop μ-loop
-mul-out-3 c = omega (arith, c .before .before .before .before .before .before .before .before .loop .inv, c .before .before .before .before .before .before .before .before .before .before .before .good .1 .1 .1 .0)
-
-slice-read-out-2 : tie.Need-slice-read-out-2 Inv-loop μ-loop
-slice-read-out-2 c = simp length-set (omega (arith, c .before .before .before .before .before .before .before .before .before .loop .inv))
-
-mul-out-4 : tie.Need-mul-out-4 Inv-loop μ-loop
-mul-out-4 c = omega (arith, c .before .before .before .before .before .before .before .before .before .loop .inv, c .before .before .before .before .before .before .before .before .before .before .before .before .good .1 .1 .1 .0)
-
-slice-write-out-2 : tie.Need-slice-write-out-2 Inv-loop μ-loop
-slice-write-out-2 c = simp length-set (omega (arith, c .before .before .before .before .before .before .before .before .before .loop .inv))
-
-add-j : tie.Need-add-j Inv-loop μ-loop
-add-j c = search needs
+add-both-still-requires : tie.Need-add-both-still-requires Inv-loop μ-loop
+add-both-still-requires c κs =
+    let p = c .before .before .before .before .before .before .before .before .pre in
+    let i = c .before .before .before .before .before .loop .inv .moving in
+    let e = c .before .stays-to .ensures in
+    (omega (arith, e .0), omega (arith, e .1, i .passing .same, p .0), λ o. omega (arith, e .1, p .1 o), λ o. omega (arith, e .1, p .2 o), omega (arith, e, moving-remaining _ _ _ _ _ i, p .3))
 
 loop-less : tie.Need-loop-less Inv-loop μ-loop
-loop-less c = search needs
+loop-less c = omega (arith, c .before .before .before .before .stays-to .ensures, c .before .before .before .before .before .before .before .loop-test .taken)
 
 loop-again : tie.Need-loop-again Inv-loop μ-loop
-loop-again c = both-turn _ _ _ _ _ _ _ (c .before .before .before .before .before .before .before .before .before .before .before .loop .inv) (c .before .before .before .before .before .before .before .before .before .before .loop-test .taken) _ _ _ _ (c .before .before .before .before .before .before .before .share .ensures) (c .before .before .before .before .before .before .share2 .ensures) (c .before .before .before .before .before .share3 .ensures) (c .before .before .before .before .share4 .ensures) _ _ (c .before .before .before .before .before .before .before .before .before .tick .ensures) (c .before .before .before .before .before .before .before .before .tick2 .ensures)
+loop-again c =
+    let e = c .before .before .before .before .stays-to .ensures in
+    let a = c .before .before .add-both-still .ensures in
+    both-turn _ _ _ _ _ _ _ (c .before .before .before .before .before .before .before .before .loop .inv) _ (e .0) (e .1) _ (ap (λ u. u .ramp) (c .before .before .before .before .before .before .tick .ensures)) (e .2) _ (a .0) _ (a .1)
 
 same-length : tie.Need-same-length Inv-loop μ-loop
-same-length c = c .before .loop .inv .passing .same
+same-length c = c .before .loop .inv .moving .passing .same
 
 returns : tie.Need-returns Inv-loop μ-loop
 returns c = both-end _ _ _ _ _ _ _ (c .before .loop .inv) (c .loop-test .left)
@@ -87,22 +53,8 @@ add-both-spec =
     μ-loop
     loop-holds
     tick-requires
-    tick-requires-2
-    mul-k
-    add-n
-    share-requires
-    share-requires-2
-    share-requires-3
-    share-requires-4
-    mul-out
-    slice-read-out
-    mul-out-2
-    slice-write-out
-    mul-out-3
-    slice-read-out-2
-    mul-out-4
-    slice-write-out-2
-    add-j
+    stays-to-requires
+    add-both-still-requires
     loop-less
     loop-again
     same-length

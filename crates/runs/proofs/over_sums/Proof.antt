@@ -21,7 +21,7 @@ part-of-requires c κs =
 
 add-both-requires : tie.Need-add-both-requires
 add-both-requires c κs =
-    let s = c .before .before .before .before .before .before .before in let t = rw (c .before .before .before .tail .given .1) at (s .pre .tail) in (s .pre .room, s .pre .song, rw (c .before .part-of .ensures) (part-reads (s .args .pool .now) (s .args .clip) _ (s .args .n) (s .pre .clip) (t .1)))
+    let s = c .before .before .before .before .before .before .before in let t = rw (c .before .before .before .tail .given .1) at (s .pre .tail) in (s .pre .room, s .pre .song, rw (c .before .part-of .ensures) (part-reads (s .args .pool .now) (s .args .clip) _ (s .args .n) (s .pre .clip) (t .1)), t .0)
 
 cursor-by-requires : tie.Need-cursor-by-requires
 cursor-by-requires c κs =

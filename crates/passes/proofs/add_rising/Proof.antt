@@ -1,35 +1,38 @@
--- `passes::add_moving` meets its contract. Assumes nothing.
+-- `passes::add_rising` meets its contract. Assumes nothing.
 use lib.ListN.{length-set}
+use native.Mathlib.Numerals.{unary-clauses}
 use Prim.Native.Nat.{_-_}
 use native.Mathlib.Omega.{arith}
-use Rattle.passes.proofs.Moving.{Moving, moving-start, moving-turn, moving-end}
+use Rattle.passes.specs.Adds.{adds}
+use Rattle.passes.proofs.Moving.{Moving, moving-start, moving-remaining, moving-end}
+use Rattle.passes.proofs.Parts.{part-turn}
 use borrow.Author.Needs.{needs}
-use Rattle.passes.proofs.add_moving.Statement.{statement}
-use Rattle.passes.proofs.add_moving.Tie as tie
+use Rattle.passes.proofs.add_rising.Statement.{statement}
+use Rattle.passes.proofs.add_rising.Tie as tie
 
 abbrev Inv-loop : tie.InvT-loop
-Inv-loop pool part out₀ frames r₀ j₀ out r j = Moving pool part r₀ frames out₀ out r j
+Inv-loop pool part out₀ frames r₀ j₀ out r j = Moving (adds pool part r₀) r₀ 0 frames out₀ out r j
 
 abbrev μ-loop : tie.MeasureT-loop
 μ-loop pool part out₀ frames r₀ j₀ out r j = frames - j
 
 loop-holds : tie.Need-loop-holds Inv-loop μ-loop
-loop-holds c = moving-start _ _ _ _ _
+loop-holds c = moving-start _ _ _ _ _ (omega arith)
 
-tick-requires : tie.Need-tick-requires Inv-loop μ-loop
-tick-requires c κs = search needs
+rise-requires : tie.Need-rise-requires Inv-loop μ-loop
+rise-requires c κs = omega (arith, moving-remaining _ _ _ _ _ (c .before .loop .inv), c .loop-test .taken, c .before .before .before .before .pre .2)
 
 mul-k : tie.Need-mul-k Inv-loop μ-loop
 mul-k c = search needs
 
-share-requires : tie.Need-share-requires Inv-loop μ-loop
-share-requires c κs = λ e. omega (arith, c .before .before .loop .inv, c .before .before .before .before .before .pre .1 e)
-
 add-n : tie.Need-add-n Inv-loop μ-loop
 add-n c = search needs
 
+share-requires : tie.Need-share-requires Inv-loop μ-loop
+share-requires c κs = λ e. omega (arith, c .before .loop-test .taken, c .before .before .before .before .before .pre .1 e)
+
 share-requires-2 : tie.Need-share-requires-2 Inv-loop μ-loop
-share-requires-2 c κs = λ e. omega (arith, c .before .before .before .loop .inv, c .before .before .before .before .before .before .pre .1 e)
+share-requires-2 c κs = λ e. omega (arith, c .before .before .loop-test .taken, c .before .before .before .before .before .before .pre .1 e)
 
 mul-out : tie.Need-mul-out Inv-loop μ-loop
 mul-out c = search needs
@@ -62,25 +65,25 @@ loop-less : tie.Need-loop-less Inv-loop μ-loop
 loop-less c = search needs
 
 loop-again : tie.Need-loop-again Inv-loop μ-loop
-loop-again c = moving-turn _ _ _ _ _ (c .before .before .before .before .before .before .before .loop .inv) (c .before .before .before .before .before .before .loop-test .taken) _ _ (c .before .before .before .before .share .ensures) (c .before .before .before .share2 .ensures) _ (c .before .before .before .before .before .tick .ensures)
+loop-again c = part-turn _ _ _ _ _ (c .before .before .before .before .before .before .loop .inv) (c .before .before .before .before .before .loop-test .taken) _ _ (c .before .before .before .share .ensures) (c .before .before .share2 .ensures) _ (c .before .before .before .before .rise .ensures)
 
 same-length : tie.Need-same-length Inv-loop μ-loop
 same-length c = c .before .loop .inv .passing .same
 
 returns : tie.Need-returns Inv-loop μ-loop
-returns c = moving-end _ _ _ _ _ (c .before .loop .inv) (c .loop-test .left)
+returns c = simp unary-clauses at (moving-end _ _ _ _ _ (c .before .loop .inv) (c .loop-test .left))
 
-pub add-moving-spec : {M : Type 1} → statement M
-add-moving-spec =
+pub add-rising-spec : {M : Type 1} → statement M
+add-rising-spec =
     tie.close
     (tie.spec
     Inv-loop
     μ-loop
     loop-holds
-    tick-requires
+    rise-requires
     mul-k
-    share-requires
     add-n
+    share-requires
     share-requires-2
     mul-out
     slice-read-out
