@@ -1,19 +1,20 @@
 -- A bank is well formed exactly if each used slot's clip is and every two of them are apart, with distinct serials; a handle is live
 -- exactly if its slot is used and has its serial. Assumes nothing.
-use mathlib.Core.Path.{_≡_, refl, sym}
-use mathlib.Core.Bool.{Bool, true, false, not, _&&_, _||_}
+use mathlib.Core.Path.{_≡_, refl, sym, _∙_}
+use mathlib.Core.Bool.{Bool, true, false, not, _&&_, _||_, cond}
 use mathlib.Core.Logic.{_⊎_, inl, inr}
 use Prim.Native.Nat.{ℕ, _+_, _≤_, _<_}
 use native.Mathlib.Omega.{arith}
 use borrow.Author.Tests.{le-leb, leb-true, lt-ltb, ltb-true, eqb-true, eq-eqb, eqb-false, ne-eqb}
 use lib.Dec.{leb, ltb, eqb}
 use Rattle.counts.specs.Below.{within, allBelow}
-use Rattle.counts.proofs.Truth.{two-ways, lt-or-le, never, and-true, and-l, and-r, or-l, or-r, or-cases, not-true, not-false}
-use Rattle.counts.proofs.Below.{within-is, within-low, within-high, all-true, all-at}
+use Rattle.counts.proofs.Truth.{two-ways, lt-or-le, never, and-true, and-l, and-r, and-false-l, and-false-r, or-l, or-r, or-cases, not-true, not-false}
+use Rattle.counts.proofs.Below.{within-is, within-low, within-high, all-true, all-false, all-at}
 use Rattle.counts.specs.declared.Handle.{Handle}
 use Rattle.bank.specs.declared.Clip.{Clip}
 use Rattle.bank.specs.declared.Bank.{Bank}
-use Rattle.bank.specs.Slots.{usedAt, clipIn, clipOf, live}
+use Rattle.bank.specs.declared.Stands.{Stands}
+use Rattle.bank.specs.Slots.{usedAt, clipIn, clipOf, live, clipStands, standsFor}
 use Rattle.bank.specs.Room.{apart}
 use Rattle.bank.specs.WellFormed.{rateOk, extentOk, clipOk, pairOk, besideOk, slotOk, bankOk}
 
@@ -98,6 +99,40 @@ module _ (c d : Clip) where
 pub pair-sym : (c d : Clip) → pairOk c d ≡ true → pairOk d c ≡ true
 pair-sym c d e = pair-is d c (apart-sym c d (pair-apart c d e)) (λ x. pair-serials c d e (sym x))
 
+-- ---- one slot
+
+-- beside the clip of a used slot: the pair,
+pub beside-used : (b : Bank) (c d : Clip) (j : ℕ) → d ≡ clipIn b j → usedAt (b .used) j ≡ true → besideOk b c j ≡ pairOk c d
+unfolding besideOk
+beside-used b c d j e u = rw (u, sym e) refl
+
+-- beside a free slot: nothing
+pub beside-free : (b : Bank) (c : Clip) (j : ℕ) → usedAt (b .used) j ≡ false → besideOk b c j ≡ true
+unfolding besideOk
+beside-free b c j u = rw u refl
+
+-- nothing is asked of a free slot
+pub slot-free : (b : Bank) (room i : ℕ) → usedAt (b .used) i ≡ false → slotOk b room i ≡ true
+unfolding slotOk
+slot-free b room i u = rw u refl
+
+module _ (b : Bank) (room i : ℕ) (c : Clip) (e : c ≡ clipIn b i) (u : usedAt (b .used) i ≡ true) where
+  slot-used : slotOk b room i ≡ clipOk room (b .last) c && allBelow i (besideOk b c)
+  unfolding slotOk
+  slot-used = rw (u, e) refl
+
+  -- a used slot fails by its clip,
+  pub clip-fails : clipOk room (b .last) c ≡ false → slotOk b room i ≡ false
+  clip-fails h = slot-used ∙ and-false-l (allBelow i (besideOk b c)) h
+
+  -- or by that clip beside one of a lower slot,
+  pub beside-fails : (j : ℕ) → j < i → besideOk b c j ≡ false → slotOk b room i ≡ false
+  beside-fails j l h = slot-used ∙ and-false-r (clipOk room (b .last) c) (all-false (besideOk b c) i j l h)
+
+  -- and is in order by both
+  pub slot-holds : clipOk room (b .last) c ≡ true → ((j : ℕ) → j < i → besideOk b c j ≡ true) → slotOk b room i ≡ true
+  slot-holds h f = slot-used ∙ and-true h (all-true (besideOk b c) i f)
+
 -- ---- every slot
 
 module _ (b : Bank) (room : ℕ) where
@@ -169,3 +204,9 @@ module _ (b : Bank) (h : Handle) where
   pub live-is : Alive b h → live b h ≡ true
   unfolding live
   live-is a = and-true (lt-ltb (h .slot) 32 (a .among)) (and-true (a .used) (eq-eqb (clipOf b h .serial) (h .serial) (a .serial)))
+
+-- what a handle stands for is said by the clip in its slot and by the number that marks the used ones
+pub stands-clip : (b : Bank) (h : Handle) {used : ℕ} {clip : Clip} → b .used ≡ used → (h .slot < 32 → clipOf b h ≡ clip) → h .slot < 32
+    → standsFor b h ≡ cond (usedAt used (h .slot) && eqb (clip .serial) (h .serial)) (clipStands (clip .kind) (clip .rate)) Stands.Stale
+unfolding standsFor live
+stands-clip b h e f l = rw (e, f l, lt-ltb (h .slot) 32 l) refl

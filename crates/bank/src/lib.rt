@@ -5,10 +5,11 @@ ghost use Prim.Native.Nat.{_+_, _-_, _<_, _≤_, _^_, min};
 ghost use lib.Dec.{leb};
 ghost use lib.ListN.{length};
 ghost use Rattle.counts.specs.Below.{allBelow};
+ghost use Rattle.counts.specs.declared.Claim.the-variants.{Song, Stinger};
 ghost use Rattle.bank.specs.Sample.{framesOf, isOdd, isPool, sampleOk, samplesOk};
 ghost use Rattle.bank.specs.Slots.{usedAt, freeSlot, loadedCount, emptyBank, clipIn, clipOf, live, foundOf, extentOf, clipStands, standsFor, standsIn, isStale, standsSong, standsStinger, wrongKind, wrongRate, claimOk, loadedIn, retiredFrom};
 ghost use Rattle.bank.specs.Room.{apart, clearAt, fits, nowhere, endIn, firstFit, pasted};
-ghost use Rattle.bank.specs.WellFormed.{rateOk, extentOk, clipOk, pairOk, besideOk, slotOk, bankOk};
+ghost use Rattle.bank.specs.WellFormed.{rateOk, extentOk, clipOk, pairOk, bankOk};
 use counts::Claim;
 use counts::Handle;
 use counts::SongFrame;
@@ -225,16 +226,35 @@ fn clip_stands(kind: Kind, rate: u32) -> Stands
     }
 }
 
+/// The place where a handle's clip is read; a handle of no slot has the first.
+pub fn place_of(h: Handle) -> usize
+    ensures { λ r. ⌜ (r < 32) × (h .slot < 32 → r ≡ h .slot) ⌝ }
+{
+    if h.slot < 32 { h.slot as usize } else { 0 }
+}
+
+/// What a handle stands for in any bank that has these slots used and this clip in the handle's.
+fn stands_by(used: u32, clip: Clip, h: Handle) -> Stands
+    ensures { λ r. ⌜ ((b : Bank) → b .used ≡ used → (h .slot < 32 → clipOf b h ≡ clip) → r ≡ standsFor b h) ⌝ }
+{
+    if h.slot >= 32 {
+        return Stands::Stale;
+    }
+    let marked = is_used(used, h.slot as usize);
+    if marked & (clip.serial == h.serial) {
+        let kind = clip.kind;
+        return clip_stands(kind, clip.rate);
+    }
+    Stands::Stale
+}
+
 /// A live handle stands for a song or a stinger of a rate.
 pub fn stands_for(b: Bank, h: Handle) -> Stands
     ensures { λ r. ⌜ r ≡ standsFor b h ⌝ }
 {
-    if is_live(b, h) {
-        let c = clip_of(b, h);
-        let kind = c.kind;
-        return clip_stands(kind, c.rate);
-    }
-    Stands::Stale
+    let i = place_of(h);
+    let c = clip_in(b, i);
+    stands_by(b.used, c, h)
 }
 
 /// What a command or a voice holds: nothing, or a handle.
@@ -307,13 +327,24 @@ pub fn wrong_rate(rate: u32, x: Stands) -> bool
     }
 }
 
-/// A held handle is live, of right kind and rate.
-pub fn claim_ok(b: Bank, rate: u32, c: Claim) -> bool
-    ensures { λ r. ⌜ r ≡ claimOk b rate c ⌝ }
+/// A handle that is held as a song is live, of right kind and rate, in any bank that has these slots used and this clip in the handle's.
+pub fn song_held(used: u32, clip: Clip, rate: u32, h: Handle) -> bool
+    ensures { λ r. ⌜ ((b : Bank) → b .used ≡ used → (h .slot < 32 → clipOf b h ≡ clip) → r ≡ claimOk b rate (Song h)) ⌝ }
 {
-    let x = stands_in(b, c);
+    let x = stands_by(used, clip, h);
     let stale = is_stale(x);
-    let kind = wrong_kind(c, x);
+    let kind = stands_stinger(x);
+    let other = wrong_rate(rate, x);
+    !(stale | kind | other)
+}
+
+/// The same of a handle that is held as a stinger.
+pub fn stinger_held(used: u32, clip: Clip, rate: u32, h: Handle) -> bool
+    ensures { λ r. ⌜ ((b : Bank) → b .used ≡ used → (h .slot < 32 → clipOf b h ≡ clip) → r ≡ claimOk b rate (Stinger h)) ⌝ }
+{
+    let x = stands_by(used, clip, h);
+    let stale = is_stale(x);
+    let kind = stands_song(x);
     let other = wrong_rate(rate, x);
     !(stale | kind | other)
 }
@@ -481,58 +512,32 @@ pub fn pair_ok(c: Clip, d: Clip) -> bool
     clear & (c.serial != d.serial)
 }
 
-/// A clip beside that of slot j, if that is used.
-pub fn beside_ok(b: Bank, c: Clip, j: usize) -> bool
-    requires { ⌜ j < 32 ⌝ }
-    ensures { λ r. ⌜ r ≡ besideOk b c j ⌝ }
-{
-    if is_used(b.used, j) {
-        let d = clip_in(b, j);
-        return pair_ok(c, d);
-    }
-    true
-}
-
-/// A clip beside those of the slots below i.
-fn all_beside(b: Bank, c: Clip, i: usize) -> bool
-    requires { ⌜ i ≤ 32 ⌝ }
-    ensures { λ r. ⌜ r ≡ allBelow i (besideOk b c) ⌝ }
-{
-    let mut j: usize = 0;
-    while j < i {
-        if beside_ok(b, c, j) {
-            j += 1;
-        } else {
-            return false;
-        }
-    }
-    true
-}
-
-/// The slot i, if it is used: its clip, and that clip beside those of the lower slots.
-pub fn slot_ok(b: Bank, room: u64, i: usize) -> bool
-    requires { ⌜ i < 32 ⌝ }
-    ensures { λ r. ⌜ r ≡ slotOk b room i ⌝ }
-{
-    if is_used(b.used, i) {
-        let c = clip_in(b, i);
-        let own = clip_ok(c, room, b.last);
-        let others = all_beside(b, c, i);
-        return own & others;
-    }
-    true
-}
-
 /// Used clips lie in the pool, apart, with distinct serials already given.
 pub fn bank_ok(b: Bank, room: u64) -> bool
     ensures { λ r. ⌜ r ≡ bankOk b room ⌝ }
 {
     let mut i: usize = 0;
     while i < SLOTS {
-        if slot_ok(b, room, i) {
+        if is_used(b.used, i) {
+            let c = b.clips[i];
+            if !clip_ok(c, room, b.last) {
+                return false;
+            }
+            let mut j: usize = 0;
+            while j < i {
+                if is_used(b.used, j) {
+                    let d = b.clips[j];
+                    if !pair_ok(c, d) {
+                        return false;
+                    }
+                    j += 1;
+                } else {
+                    j += 1;
+                }
+            }
             i += 1;
         } else {
-            return false;
+            i += 1;
         }
     }
     true

@@ -1,29 +1,38 @@
 //! The session, why a call is refused, and the answers that calls share.
 ghost use mathlib.Core.Path.{_≡_};
-ghost use mathlib.Core.Bool.{true, _&&_};
-ghost use Prim.Native.Nat.{ℕ, _+_, _-_, _*_, _<_, _≤_, _^_, min};
+ghost use mathlib.Core.Bool.{_&&_, cond};
+ghost use Prim.Native.Nat.{_+_, _-_, _*_, _<_, _≤_, _^_, min};
 ghost use lib.Dec.{eqb, leb};
 ghost use lib.ListN.{length};
-ghost use Rattle.counts.specs.Below.{allBelow};
+ghost use Rattle.counts.specs.Below.{within, allBelow};
 ghost use Rattle.counts.specs.declared.Claim.the-variants.{Song};
+ghost use Rattle.ramp.specs.Number.{zero32, two32, between};
+ghost use Rattle.ramp.specs.Tail.{tailFrames};
 ghost use Rattle.timeline.specs.Command.{claimOf};
-ghost use Rattle.timeline.specs.Record.{readOf};
+ghost use Rattle.timeline.specs.Record.{handleOf, readOf};
 ghost use Rattle.timeline.specs.Store.{rowAt};
-ghost use Rattle.timeline.specs.Queue.{entryOk};
+ghost use Rattle.timeline.specs.Queue.{orderedAt, risingAt, entryOk, stingers};
+ghost use Rattle.transport.specs.Transport.{transportFits};
+ghost use Rattle.bank.specs.Slots.{clipOf, extentOf, claimOk};
+ghost use Rattle.oneshot.specs.Mix.{voiceAt};
+ghost use Rattle.stage.specs.Sound.{masterFrames};
 ghost use Rattle.session.specs.Refusal.{numberOf};
 ghost use Rattle.session.specs.Session.{extentNow, capturedNow, turnedAway};
-ghost use Rattle.session.specs.WellFormed.{settingsOk, numbersOk, storesOk, recordsOk, held, rowHeld, everyVoice, songOk, stingersOk, masterOk, voiceOk, tailOk, countsOk, wellFormed, weighOnly};
+ghost use Rattle.session.specs.WellFormed.{settingsOk, storesOk, voiceOk, wellFormed, weighOnly};
 ghost use Rattle.session.specs.Reading.{clockOf, positionOf, transportStateOf, loopRangeOf, masterGainOf, songOf, queueDepthOf, isLiveOf};
 use bank::Bank;
-use counts::Claim;
+use bank::Clip;
 use counts::ClockFrame;
 use counts::Handle;
 use counts::SongFrame;
 use oneshot::Voice;
+use oneshot::Voices;
+use ramp::Ramp;
+use stage::Counters;
+use stage::Playhead;
 use stage::Settings;
 use stage::Stage;
 use stage::Tail;
-use timeline::Reading;
 use timeline::Row;
 use transport::LoopRange;
 use transport::TransportState;
@@ -254,20 +263,15 @@ pub fn settings_ok(x: Settings) -> bool
 }
 
 /// The numbers are in range: the settings, the clock to 2^62, and no count passes its store.
-fn numbers_ok(s: Session) -> bool
-    ensures { λ r. ⌜ r ≡ numbersOk s ⌝ }
+fn numbers_ok(x: Settings, clock: ClockFrame, queued: usize, captured: usize, voices: usize) -> bool
+    ensures { λ r. ⌜ r ≡ settingsOk x && leb (clock .0) (2 ^ 62) && leb queued (x .queue) && leb captured (x .capture) && leb voices 16 ⌝ }
 {
-    let x = s.settings;
     let settings = settings_ok(x);
-    let clock = s.clock();
-    let d = s.desk;
-    let captured = captured_now(d);
-    let count = s.stage.sound.voices.count;
     settings
         & (clock.0 <= CLOCK_END)
-        & (s.queued <= x.queue)
+        & (queued <= x.queue)
         & (captured <= x.capture)
-        & (count <= 16)
+        & (voices <= 16)
 }
 
 /// A store has five words for each of n records, and no other length.
@@ -284,121 +288,117 @@ pub fn stores_ok(x: Settings, queue: &[u64], capture: &[u64]) -> bool
     is_store(queue, x.queue) & is_store(capture, x.capture)
 }
 
-/// Queue strictly ordered; queued and captured commands readable, gains as 14 allows, numbers from 1 to the last given, rising in the capture.
-fn records_ok(s: Session, queue: &[u64], capture: &[u64]) -> bool
-    requires { ⌜ (s .queued * 5 ≤ length (now queue)) × (capturedNow (s .desk) * 5 ≤ length (now capture)) ⌝ }
-    ensures { λ r. ⌜ r ≡ recordsOk s (now (queue .entry)) (now (capture .entry)) ⌝ }
-{
-    let d = s.desk;
-    let captured = captured_now(d);
-    timeline::queue_ok(queue, s.queued, d.number)
-        & timeline::capture_ok(capture, captured, d.number)
-}
-
-/// What is held is live, of right kind and rate.
-fn held(s: Session, c: Claim) -> bool
-    ensures { λ r. ⌜ r ≡ held s c ⌝ }
-{
-    let b = s.bank;
-    bank::claim_ok(b, s.settings.rate, c)
-}
-
 /// The song is held; position <= length; a loop as Loop allows.
-fn song_ok(s: Session) -> bool
-    ensures { λ r. ⌜ r ≡ held s (Song (songOf s)) && songOk s ⌝ }
+fn song_ok(used: u32, clip: Clip, rate: u32, p: Playhead) -> bool
+    ensures { λ r. ⌜ ((b : Bank) → b .used ≡ used → (p .song .slot < 32 → clipOf b (p .song) ≡ clip) → r ≡ claimOk b rate (Song (p .song)) && transportFits (extentOf (clipOf b (p .song) .kind)) (p .transport)) ⌝ }
 {
-    let h = s.song();
-    let stands = held(s, Claim::Song(h));
-    let position = s.position();
-    let extent = extent_now(s);
-    let looped = s.loop_range();
+    let h = p.song;
+    if !bank::song_held(used, clip, rate, h) {
+        return false;
+    }
+    let kind = clip.kind;
+    let extent = bank::extent_of(kind);
+    let transport = p.transport;
+    let looped = transport.looped;
     let fits = looped.fits(extent);
-    stands & ((position.0 <= extent.0) & fits)
+    (transport.position.0 <= extent.0) & fits
 }
 
 /// The tail's clip is held, and its weight has 1 to 1,024 frames left, its target 0.
-fn tail_ok(s: Session) -> bool
-    ensures { λ r. ⌜ r ≡ tailOk s (s .stage .sound .fade .tail) ⌝ }
+fn tail_ok(used: u32, clip: Clip, rate: u32, h: Handle, w: Ramp) -> bool
+    ensures { λ r. ⌜ ((b : Bank) → b .used ≡ used → (h .slot < 32 → clipOf b h ≡ clip) → r ≡ claimOk b rate (Song h) && (within 1 tailFrames (w .remaining) && between zero32 zero32 (w .target))) ⌝ }
 {
-    let fade = s.stage.sound.fade;
-    let tail = fade.tail;
-    match tail {
-        Tail::None => true,
-        Tail::Sounding(h, _, w) => {
-            let stands = held(s, Claim::Song(h));
-            let target = ramp::is_between(0.0, 0.0, w.target);
-            stands & (((1 <= w.remaining) & (w.remaining <= stage::SWAP_FADE_FRAMES)) & target)
-        }
-    }
-}
-
-/// The clip of a record, if it holds one, is live, of right kind and rate.
-fn row_held(s: Session, x: Row) -> bool
-    requires { ⌜ entryOk (s .desk .number) x ≡ true ⌝ }
-    ensures { λ r. ⌜ r ≡ held s (claimOf (readOf x)) ⌝ }
-{
-    let reading = timeline::read(x);
-    match reading {
-        Reading::Unreadable => false,
-        Reading::GainRefused => false,
-        Reading::Record(d) => {
-            let command = d.command;
-            held(s, command.claim())
-        }
-    }
-}
-
-/// So is that of every one of n records.
-fn rows_held(s: Session, store: &[u64], n: usize) -> bool
-    requires { ⌜ (n * 5 ≤ length (now store)) × ((j : ℕ) → j < n → entryOk (s .desk .number) (rowAt (now store) j) ≡ true) ⌝ }
-    ensures { λ r. ⌜ r ≡ allBelow n (rowHeld s (now (store .entry))) ⌝ }
-{
-    let mut j = 0;
-    while j < n {
-        if row_held(s, timeline::row_at(store, j)) {
-            j += 1;
-        } else {
-            return false;
-        }
-    }
-    true
+    let stands = bank::song_held(used, clip, rate, h);
+    let target = ramp::is_between(0.0, 0.0, w.target);
+    stands & (((1 <= w.remaining) & (w.remaining <= stage::SWAP_FADE_FRAMES)) & target)
 }
 
 /// A voice: its clip held, its head even and inside the clip, at most the declick remaining, its target from 0 to 16.
-fn voice_ok(s: Session, v: Voice) -> bool
-    ensures { λ r. ⌜ r ≡ voiceOk s v ⌝ }
+fn voice_ok(used: u32, clip: Clip, rate: u32, v: Voice) -> bool
+    ensures { λ r. ⌜ ((s : Session) → s .bank .used ≡ used → s .settings .rate ≡ rate → (v .handle .slot < 32 → clipOf (s .bank) (v .handle) ≡ clip) → r ≡ voiceOk s v) ⌝ }
 {
     let h = v.handle;
-    if !held(s, Claim::Stinger(h)) {
+    if !bank::stinger_held(used, clip, rate, h) {
         return false;
     }
-    let b = s.bank;
-    let clip = bank::clip_of(b, h);
     let head = v.head.0;
     let frame = (head / 2) as u64;
-    let declick = oneshot::declick(s.settings.rate);
+    let declick = oneshot::declick(rate);
     let gain = v.gain;
     let target = ramp::is_between(0.0, 16.0, gain.target);
     ((head % 2 == 0) & (frame < clip.frames)) & ((gain.remaining <= declick.frames) & target)
 }
 
 /// Every voice that sounds is one.
-fn voices_ok(s: Session) -> bool
-    requires { ⌜ s .stage .sound .voices .count ≤ 16 ⌝ }
-    ensures { λ r. ⌜ r ≡ everyVoice s (voiceOk s) ⌝ }
+fn voices_ok(b: Bank, rate: u32, voices: Voices) -> bool
+    requires { ⌜ voices .count ≤ 16 ⌝ }
+    ensures { λ r. ⌜ ((s : Session) → s .bank ≡ b → s .settings .rate ≡ rate → r ≡ allBelow (voices .count) (λ i. voiceOk s (voiceAt voices i))) ⌝ }
 {
-    let voices = s.stage.sound.voices;
-    let count = voices.count;
     let mut i: usize = 0;
-    while i < count {
+    while i < voices.count {
         let v = voices.table[i];
-        if voice_ok(s, v) {
+        let place = bank::place_of(v.handle);
+        let clip = b.clips[place];
+        if voice_ok(b.used, clip, rate, v) {
             i += 1;
         } else {
             return false;
         }
     }
     true
+}
+
+/// A record is in order by itself, and the clip that it holds, if it holds one, is live, of right kind and rate.
+fn row_ok(used: u32, clip: Clip, rate: u32, last: u64, x: Row) -> bool
+    ensures { λ r. ⌜ ((b : Bank) → b .used ≡ used → (handleOf (x .first) .slot < 32 → clipOf b (handleOf (x .first)) ≡ clip) → r ≡ entryOk last x && claimOk b rate (claimOf (readOf x))) ⌝ }
+{
+    if !timeline::entry_ok(x, last) {
+        return false;
+    }
+    let h = timeline::handle_of(x.first);
+    let kind = x.kind;
+    match kind {
+        9 => bank::song_held(used, clip, rate, h),
+        10 => bank::stinger_held(used, clip, rate, h),
+        _ => true,
+    }
+}
+
+/// A Stinger takes a voice, any other command none.
+fn voices_of(kind: u64) -> usize
+    ensures { λ r. ⌜ r ≡ cond (eqb kind 10) 1 0 ⌝ }
+{
+    if kind == 10 { 1 } else { 0 }
+}
+
+/// The n records of a store: in its order, each in order by itself, what they hold live, of right kind and rate, and at most so many Stingers.
+fn rows_ok(b: Bank, rate: u32, last: u64, rising: bool, most: usize, store: &[u64], n: usize) -> bool
+    requires { ⌜ n * 5 ≤ length (now store) ⌝ }
+    ensures { λ r. ⌜ r ≡ allBelow n (λ j. cond rising (risingAt (now (store .entry)) j) (orderedAt (now (store .entry)) j) && entryOk last (rowAt (now (store .entry)) j) && claimOk b rate (claimOf (readOf (rowAt (now (store .entry)) j)))) && leb (stingers (now (store .entry)) n) most ⌝ }
+{
+    let mut stingers: usize = 0;
+    let mut j: usize = 0;
+    while j < n {
+        if !timeline::in_order(store, j, rising) {
+            return false;
+        }
+        let x = timeline::row_at(store, j);
+        if timeline::is_plain(x.kind) {
+            if !timeline::number_ok(x.number, last) {
+                return false;
+            }
+            j += 1;
+        } else {
+            let place = bank::place_of(timeline::handle_of(x.first));
+            let clip = b.clips[place];
+            if !row_ok(b.used, clip, rate, last, x) {
+                return false;
+            }
+            stingers = stingers + voices_of(x.kind);
+            j += 1;
+        }
+    }
+    stingers <= most
 }
 
 /// Two counts are together at most a third, as whole numbers: their sum may pass 2^64.
@@ -408,79 +408,83 @@ fn together(a: u64, b: u64, most: u64) -> bool
     if b <= most { a <= most - b } else { false }
 }
 
-/// Queued stingers + voices <= 16.
-fn stingers_ok(s: Session, queue: &[u64]) -> bool
-    requires { ⌜ s .queued * 5 ≤ length (now queue) ⌝ }
-    ensures { λ r. ⌜ r ≡ stingersOk s (now (queue .entry)) ⌝ }
-{
-    let stingers = timeline::count_stingers(queue, s.queued);
-    let count = s.stage.sound.voices.count;
-    together(stingers as u64, count as u64, 16)
-}
-
 /// The master has at most 256 frames left, its target from 0 to 2.
-fn master_ok(s: Session) -> bool
-    ensures { λ r. ⌜ r ≡ masterOk s ⌝ }
+fn master_ok(master: Ramp) -> bool
+    ensures { λ r. ⌜ r ≡ leb (master .remaining) masterFrames && between zero32 two32 (master .target) ⌝ }
 {
-    let master = s.stage.sound.master;
     let target = ramp::is_between(0.0, 2.0, master.target);
     (master.remaining <= stage::GAIN_RAMP_FRAMES) & target
 }
 
 /// Executed + queued <= last number; swaps + stingers fired <= executed.
-fn counts_ok(s: Session) -> bool
-    ensures { λ r. ⌜ r ≡ countsOk s ⌝ }
+fn counts_ok(k: Counters, queued: usize, last: u64) -> bool
+    ensures { λ r. ⌜ r ≡ leb (k .executed + queued) last && leb (k .swaps + k .fired) (k .executed) ⌝ }
 {
-    let k = s.stage.counters;
-    let queued = s.queued as u64;
-    together(k.executed, queued, s.desk.number) & together(k.swaps, k.fired, k.executed)
+    together(k.executed, queued as u64, last) & together(k.swaps, k.fired, k.executed)
 }
 
-/// Well formed: each clause in turn, of any session with any stores.
+/// Well formed: each clause in turn, of the parts of any session with any stores.
+pub fn formed(settings: Settings, bank: Bank, stage: Stage, queued: usize, desk: Desk, queue: &[u64], capture: &[u64]) -> bool
+    ensures { λ r. ⌜ r ≡ wellFormed (record { settings = settings; bank = bank; stage = stage; queued = queued; desk = desk }) (now (queue .entry)) (now (capture .entry)) ⌝ }
+{
+    let captured = captured_now(desk);
+    let count = stage.sound.voices.count;
+    if !numbers_ok(settings, stage.clock, queued, captured, count) {
+        return false;
+    }
+    if !stores_ok(settings, queue, capture) {
+        return false;
+    }
+    let master = stage.sound.master;
+    if !master_ok(master) {
+        return false;
+    }
+    let counters = stage.counters;
+    if !counts_ok(counters, queued, desk.number) {
+        return false;
+    }
+    if !bank::bank_ok(bank, settings.pool) {
+        return false;
+    }
+    let playhead = stage.playhead;
+    let place = bank::place_of(playhead.song);
+    let song = bank.clips[place];
+    if !song_ok(bank.used, song, settings.rate, playhead) {
+        return false;
+    }
+    if queued > 0 {
+        if !rows_ok(bank, settings.rate, desk.number, false, 16 - count, queue, queued) {
+            return false;
+        }
+    }
+    if captured > 0 {
+        if !rows_ok(bank, settings.rate, desk.number, true, captured, capture, captured) {
+            return false;
+        }
+    }
+    if count > 0 {
+        let voices = stage.sound.voices;
+        if !voices_ok(bank, settings.rate, voices) {
+            return false;
+        }
+    }
+    let fade = stage.sound.fade;
+    let tail = fade.tail;
+    match tail {
+        Tail::None => true,
+        Tail::Sounding(h, _, w) => {
+            let place = bank::place_of(h);
+            let clip = bank.clips[place];
+            tail_ok(bank.used, clip, settings.rate, h, w)
+        }
+    }
+}
+
+/// Well formed, of any session with any stores.
 pub fn well_formed(s: Session, queue: &[u64], capture: &[u64]) -> bool
     ensures { λ r. ⌜ r ≡ wellFormed s (now (queue .entry)) (now (capture .entry)) ⌝ }
 {
-    if !numbers_ok(s) {
-        return false;
-    }
-    let x = s.settings;
-    if !stores_ok(x, queue, capture) {
-        return false;
-    }
-    let b = s.bank;
-    if !bank::bank_ok(b, x.pool) {
-        return false;
-    }
-    if !records_ok(s, queue, capture) {
-        return false;
-    }
-    if !song_ok(s) {
-        return false;
-    }
-    if !tail_ok(s) {
-        return false;
-    }
-    if !rows_held(s, queue, s.queued) {
-        return false;
-    }
-    let d = s.desk;
-    let captured = captured_now(d);
-    if !rows_held(s, capture, captured) {
-        return false;
-    }
-    if !stingers_ok(s, queue) {
-        return false;
-    }
-    if !voices_ok(s) {
-        return false;
-    }
-    if !master_ok(s) {
-        return false;
-    }
-    if !counts_ok(s) {
-        return false;
-    }
-    true
+    formed(s.settings, s.bank, s.stage, s.queued, s.desk, queue, capture)
 }
 
 /// The same of a session in its parts.

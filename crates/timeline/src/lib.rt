@@ -1,16 +1,16 @@
 //! Commands and their queue: what is executed, at which frame, in which order.
 ghost use mathlib.Core.Path.{_≡_};
-ghost use mathlib.Core.Bool.{true, _&&_};
+ghost use mathlib.Core.Bool.{true, _&&_, cond};
 ghost use Prim.Native.Nat.{_+_, _-_, _*_, _≤_, _<_, _^_};
 ghost use lib.Dec.{eqb};
 ghost use lib.Ieee.{binary32, toBits, ofBits, le};
 ghost use lib.ListN.{length};
-ghost use Rattle.counts.specs.Below.{allBelow, countBelow};
+ghost use Rattle.counts.specs.Below.{within, countBelow};
 ghost use Rattle.ramp.specs.Number.{finite, sixteen32};
 ghost use Rattle.timeline.specs.Command.{commandOf, claimOf, takesVoice, gainOk};
 ghost use Rattle.timeline.specs.Record.{handleWord, handleOf, row, rowOf, readable, readOf, recordOf, readingOf, holdsRow, sooner};
 ghost use Rattle.timeline.specs.Store.{rowAt, putRow, inserted, copied};
-ghost use Rattle.timeline.specs.Queue.{ordered, orderedAt, rising, risingAt, entryOk, queueOk, captureOk, stingers, holds, dropTransitions, transitions, isQueued, dropCaptured, wouldGo};
+ghost use Rattle.timeline.specs.Queue.{orderedAt, risingAt, entryOk, stingers, holds, dropTransitions, transitions, isQueued, dropCaptured, wouldGo};
 use counts::Claim;
 use counts::ClockFrame;
 use counts::Handle;
@@ -164,7 +164,7 @@ fn handle_word(h: Handle) -> u64
 }
 
 /// The handle of a word.
-fn handle_of(w: u64) -> Handle
+pub fn handle_of(w: u64) -> Handle
     ensures { λ r. ⌜ r ≡ handleOf w ⌝ }
 {
     Handle {
@@ -524,22 +524,6 @@ fn ordered_at(store: &[u64], j: usize) -> bool
     sooner(row_at(store, j), row_at(store, j - 1))
 }
 
-/// The queue is strictly ordered.
-fn ordered(store: &[u64], n: usize) -> bool
-    requires { ⌜ n * 5 ≤ length (now store) ⌝ }
-    ensures { λ r. ⌜ r ≡ ordered (now (store .entry)) n ⌝ }
-{
-    let mut j = 0;
-    while j < n {
-        if ordered_at(store, j) {
-            j += 1;
-        } else {
-            return false;
-        }
-    }
-    true
-}
-
 /// The number of record j is above that of the one before it.
 fn rising_at(capture: &[u64], j: usize) -> bool
     requires { ⌜ j * 5 + 5 ≤ length (now capture) ⌝ }
@@ -553,20 +537,29 @@ fn rising_at(capture: &[u64], j: usize) -> bool
     x.number < y.number
 }
 
-/// A capture's submission numbers rise.
-fn rising(capture: &[u64], m: usize) -> bool
-    requires { ⌜ m * 5 ≤ length (now capture) ⌝ }
-    ensures { λ r. ⌜ r ≡ rising (now (capture .entry)) m ⌝ }
+/// Record j stands in the order of its store: that of a queue, or the rising one of a capture.
+pub fn in_order(store: &[u64], j: usize, rising: bool) -> bool
+    requires { ⌜ j * 5 + 5 ≤ length (now store) ⌝ }
+    ensures { λ r. ⌜ r ≡ cond rising (risingAt (now (store .entry)) j) (orderedAt (now (store .entry)) j) ⌝ }
 {
-    let mut j = 0;
-    while j < m {
-        if rising_at(capture, j) {
-            j += 1;
-        } else {
-            return false;
-        }
+    if rising {
+        return rising_at(store, j);
     }
-    true
+    ordered_at(store, j)
+}
+
+/// A submission number is from 1 to the last given.
+pub fn number_ok(number: u64, last: u64) -> bool
+    ensures { λ r. ⌜ r ≡ within 1 last number ⌝ }
+{
+    (1 <= number) & (number <= last)
+}
+
+/// A command of the first seven kinds is readable whatever its words are: it has no gain and holds no clip.
+pub fn is_plain(kind: u64) -> bool
+    ensures { λ r. ⌜ r ≡ within 1 7 kind ⌝ }
+{
+    (1 <= kind) & (kind <= 7)
 }
 
 /// A queued or captured command is readable, its gain as refusal 14 allows, its number from 1 to the last given.
@@ -579,37 +572,5 @@ pub fn entry_ok(x: Row, last: u64) -> bool
     if !row_gain_ok(x) {
         return false;
     }
-    (1 <= x.number) & (x.number <= last)
-}
-
-/// Every one of n records is in order by itself.
-fn entries_ok(store: &[u64], n: usize, last: u64) -> bool
-    requires { ⌜ n * 5 ≤ length (now store) ⌝ }
-    ensures { λ r. ⌜ r ≡ allBelow n (λ j. entryOk last (rowAt (now (store .entry)) j)) ⌝ }
-{
-    let mut j = 0;
-    while j < n {
-        if entry_ok(row_at(store, j), last) {
-            j += 1;
-        } else {
-            return false;
-        }
-    }
-    true
-}
-
-/// The queue: strictly ordered, every live record in order.
-pub fn queue_ok(store: &[u64], n: usize, last: u64) -> bool
-    requires { ⌜ n * 5 ≤ length (now store) ⌝ }
-    ensures { λ r. ⌜ r ≡ queueOk last (now (store .entry)) n ⌝ }
-{
-    ordered(store, n) & entries_ok(store, n, last)
-}
-
-/// The capture: its numbers rise, every record in order.
-pub fn capture_ok(capture: &[u64], m: usize, last: u64) -> bool
-    requires { ⌜ m * 5 ≤ length (now capture) ⌝ }
-    ensures { λ r. ⌜ r ≡ captureOk last (now (capture .entry)) m ⌝ }
-{
-    rising(capture, m) & entries_ok(capture, m, last)
+    number_ok(x.number, last)
 }

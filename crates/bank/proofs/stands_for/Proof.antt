@@ -1,28 +1,24 @@
--- `bank::stands_for` meets its contract. Assumes nothing.
-use mathlib.Core.Path.{sym, _∙_}
+-- `bank::stands_for` meets its contract: the clip is read in the handle's slot. Assumes nothing.
+use mathlib.Core.Path.{refl, sym, ap, _∙_}
 use borrow.Author.Needs.{needs}
-use Rattle.bank.specs.Slots.{standsFor}
-use Rattle.bank.proofs.Clauses.{live-has}
+use Rattle.bank.specs.Slots.{clipIn}
 use Rattle.bank.proofs.stands_for.Statement.{statement}
 use Rattle.bank.proofs.stands_for.Tie as tie
 
-is-live-requires : tie.Need-is-live-requires
-is-live-requires c κs = search needs
+place-of-requires : tie.Need-place-of-requires
+place-of-requires c κs = search needs
 
-clip-of-requires : tie.Need-clip-of-requires
-clip-of-requires c κs = live-has _ _ (sym (c .before .is-live .ensures) ∙ c .if1 .taken) .among
+clip-in-requires : tie.Need-clip-in-requires
+clip-in-requires c κs = search needs
 
-clip-stands-requires : tie.Need-clip-stands-requires
-clip-stands-requires c κs = search needs
+stands-by-requires : tie.Need-stands-by-requires
+stands-by-requires c κs = search needs
 
 returns : tie.Need-returns
-unfolding standsFor
-returns c = simp (← c .before .before .before .is-live .ensures, c .before .before .if1 .taken) (c .clip-stands .ensures ∙ simp (c .before .clip-of .ensures))
-
-returns-2 : tie.Need-returns-2
-unfolding standsFor
-returns-2 c = simp (← c .before .is-live .ensures, c .if1 .left)
+returns c =
+    let b = c .before .before .before .args .b in
+    c .stands-by .ensures b refl (λ l. sym (c .before .clip-in .ensures ∙ ap (clipIn b) (c .before .before .place-of .ensures .1 l)))
 
 pub stands-for-spec : {M : Type 1} → statement M
 stands-for-spec =
-    tie.close (tie.spec is-live-requires clip-of-requires clip-stands-requires returns returns-2)
+    tie.close (tie.spec place-of-requires clip-in-requires stands-by-requires returns)
