@@ -1,4 +1,5 @@
 mod Sizes
+mod Walk
 mod Checks
 pub mod Parts
 pub mod Typed

@@ -374,7 +374,7 @@ fn voices_of(kind: u64) -> usize
 /// The n records of a store: in its order, each in order by itself, what they hold live, of right kind and rate, and at most so many Stingers.
 fn rows_ok(b: Bank, rate: u32, last: u64, rising: bool, most: usize, store: &[u64], n: usize) -> bool
     requires { ⌜ n * 5 ≤ length (now store) ⌝ }
-    ensures { λ r. ⌜ r ≡ allBelow n (λ j. cond rising (risingAt (now (store .entry)) j) (orderedAt (now (store .entry)) j) && entryOk last (rowAt (now (store .entry)) j) && claimOk b rate (claimOf (readOf (rowAt (now (store .entry)) j)))) && leb (stingers (now (store .entry)) n) most ⌝ }
+    ensures { λ r. ⌜ r ≡ allBelow n (λ j. cond rising (risingAt (now (store .entry)) j) (orderedAt (now (store .entry)) j) && (entryOk last (rowAt (now (store .entry)) j) && claimOk b rate (claimOf (readOf (rowAt (now (store .entry)) j))))) && leb (stingers (now (store .entry)) n) most ⌝ }
 {
     let mut stingers: usize = 0;
     let mut j: usize = 0;
@@ -388,13 +388,18 @@ fn rows_ok(b: Bank, rate: u32, last: u64, rising: bool, most: usize, store: &[u6
                 return false;
             }
             j += 1;
-        } else {
+        } else if timeline::holds_clip(x.kind) {
             let place = bank::place_of(timeline::handle_of(x.first));
             let clip = b.clips[place];
             if !row_ok(b.used, clip, rate, last, x) {
                 return false;
             }
             stingers = stingers + voices_of(x.kind);
+            j += 1;
+        } else {
+            if !timeline::entry_ok(x, last) {
+                return false;
+            }
             j += 1;
         }
     }

@@ -1,6 +1,6 @@
 //! Commands and their queue: what is executed, at which frame, in which order.
 ghost use mathlib.Core.Path.{_≡_};
-ghost use mathlib.Core.Bool.{true, _&&_, cond};
+ghost use mathlib.Core.Bool.{true, _&&_, _||_, cond};
 ghost use Prim.Native.Nat.{_+_, _-_, _*_, _≤_, _<_, _^_};
 ghost use lib.Dec.{eqb};
 ghost use lib.Ieee.{binary32, toBits, ofBits, le};
@@ -555,11 +555,18 @@ pub fn number_ok(number: u64, last: u64) -> bool
     (1 <= number) & (number <= last)
 }
 
-/// A command of the first seven kinds is readable whatever its words are: it has no gain and holds no clip.
+/// A command of the first seven kinds has no gain and holds no clip.
 pub fn is_plain(kind: u64) -> bool
     ensures { λ r. ⌜ r ≡ within 1 7 kind ⌝ }
 {
     (1 <= kind) & (kind <= 7)
+}
+
+/// A Swap and a Stinger hold a clip.
+pub fn holds_clip(kind: u64) -> bool
+    ensures { λ r. ⌜ r ≡ eqb kind 9 || eqb kind 10 ⌝ }
+{
+    (kind == 9) | (kind == 10)
 }
 
 /// A queued or captured command is readable, its gain as refusal 14 allows, its number from 1 to the last given.

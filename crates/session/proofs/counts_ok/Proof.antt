@@ -1,5 +1,4 @@
 -- `counts_ok` meets its contract: each sum as a whole number.
-use Rattle.session.specs.WellFormed.{countsOk}
 use borrow.Author.Needs.{needs}
 use Rattle.session.proofs.counts_ok.Statement.{statement}
 use Rattle.session.proofs.counts_ok.Tie as tie
@@ -11,7 +10,6 @@ together-requires-2 : tie.Need-together-requires-2
 together-requires-2 c κs = search needs
 
 returns : tie.Need-returns
-unfolding countsOk
 returns c = simp (c .together2 .ensures, c .before .together .ensures)
 
 pub counts-ok-spec : {M : Type 1} → statement M

@@ -1,6 +1,5 @@
 -- `master_ok` meets its contract.
 use lib.Ieee.{ofBits}
-use Rattle.session.specs.WellFormed.{masterOk}
 use borrow.Author.Needs.{needs}
 use Rattle.session.proofs.master_ok.Statement.{statement}
 use Rattle.session.proofs.master_ok.Tie as tie
@@ -9,7 +8,7 @@ is-between-requires : tie.Need-is-between-requires
 is-between-requires c κs = search needs
 
 returns : tie.Need-returns
-unfolding masterOk ofBits
+unfolding ofBits
 returns c = simp (c .before .is-between .ensures)
 
 pub master-ok-spec : {M : Type 1} → statement M

@@ -1,7 +1,7 @@
 -- `voice_ok` meets its contract: a voice whose clip is held has a slot.
 use mathlib.Core.Path.{refl, sym, _∙_}
-use borrow.Author.Tests.{not-true}
 use lib.Ieee.{ofBits}
+use borrow.Author.Tests.{not-true}
 use Rattle.bank.proofs.Clauses.{live-has}
 use Rattle.bank.proofs.Claims.{stinger-has}
 use Rattle.session.proofs.Checks.{passes}
@@ -10,14 +10,11 @@ use borrow.Author.Needs.{needs}
 use Rattle.session.proofs.voice_ok.Statement.{statement}
 use Rattle.session.proofs.voice_ok.Tie as tie
 
-held-requires : tie.Need-held-requires
-held-requires c κs = search needs
+stinger-held-requires : tie.Need-stinger-held-requires
+stinger-held-requires c κs = search needs
 
 returns : tie.Need-returns
-returns c = simp (sym (c .before .held .ensures) ∙ not-true _ (c .if1 .taken))
-
-clip-of-requires : tie.Need-clip-of-requires
-clip-of-requires c κs = live-has _ _ (stinger-has _ _ _ (passes (c .before .before .held .ensures) (c .before .if1 .left)) .alive) .among
+returns c s e r f = rw (r, sym (c .before .stinger-held .ensures (s .bank) e f) ∙ not-true _ (c .if1 .taken)) refl
 
 declick-requires : tie.Need-declick-requires
 declick-requires c κs = search needs
@@ -27,15 +24,13 @@ is-between-requires c κs = search needs
 
 returns-2 : tie.Need-returns-2
 unfolding ofBits
-returns-2 c = rw (passes (c .before .before .before .before .before .before .before .before .before .held .ensures) (c .before .before .before .before .before .before .before .before .if1 .left), inside-frames, c .before .before .before .before .before .before .clip-of .ensures, c .before .before .before .before .before .declick .ensures, c .before .before .before .is-between .ensures) refl
+returns-2 c s e r f =
+    let a = c .before .before .before .before .before .before .before .before .before .args in
+    let h = passes (c .before .before .before .before .before .before .before .stinger-held .ensures (s .bank) e f) (c .before .before .before .before .before .before .if1 .left) in
+    let l = live-has (s .bank) (a .v .handle) (stinger-has (s .bank) (a .rate) (a .v .handle) h .alive) .among in
+    rw (r, h, inside-frames, f l, c .before .before .before .before .before .declick .ensures, c .before .before .before .is-between .ensures) refl
 
 pub voice-ok-spec : {M : Type 1} → statement M
 voice-ok-spec =
     tie.close
-    (tie.spec
-    held-requires
-    returns
-    clip-of-requires
-    declick-requires
-    is-between-requires
-    returns-2)
+    (tie.spec stinger-held-requires returns declick-requires is-between-requires returns-2)
