@@ -1,24 +1,28 @@
 -- Well formed as the code weighs it: one check after the other, and all that is asked of a voice at once. Assumes nothing.
-use mathlib.Core.Path.{_≡_, sym, ap, _∙_}
-use mathlib.Core.Bool.{Bool, true, false, not, _&&_}
+use mathlib.Core.Path.{_≡_, sym, ap, ap₂, _∙_}
+use mathlib.Core.Bool.{Bool, true, false, not, _&&_, and-true as and-whole}
 use mathlib.Core.List.{List}
-use mathlib.Core.Logic.{_⊎_, inl, inr}
-use Prim.Native.Nat.{ℕ, _*_, _^_, _≤_}
+use Prim.Native.Nat.{ℕ, _-_, _*_, _^_, _≤_}
 use native.Mathlib.Omega.{arith}
 use lib.Dec.{leb, eqb}
 use lib.ListN.{length}
-use borrow.Author.Tests.{leb-true, eqb-true, not-false}
+use borrow.Author.Tests.{le-leb, leb-true, eqb-true, not-false}
 use Rattle.counts.specs.declared.Claim.{Claim}
 use Rattle.counts.specs.Below.{allBelow}
-use Rattle.counts.proofs.Truth.{two-ways, never, not-true, and-l, and-r, and-true}
-use Rattle.counts.proofs.Below.{all-and}
-use Rattle.timeline.specs.Queue.{queueOk, captureOk}
+use Rattle.counts.proofs.Truth.{never, not-true, and-l, and-r, and-true}
+use Rattle.counts.proofs.Below.{all-and, count-at-most}
+use Rattle.timeline.specs.Record.{isStinger}
+use Rattle.timeline.specs.Store.{rowAt}
+use Rattle.timeline.specs.Queue.{queueOk, captureOk, stingers}
 use Rattle.bank.specs.WellFormed.{bankOk}
+use Rattle.bank.proofs.Sums.{leb-move}
 use Rattle.oneshot.specs.Mix.{voiceAt}
 use Rattle.stage.specs.declared.Settings.{Settings}
 use Rattle.session.specs.declared.Session.{Session}
 use Rattle.session.specs.Session.{capturedNow}
 use Rattle.session.specs.WellFormed.{settingsOk, numbersOk, storesOk, recordsOk, held, tailHeld, voiceHeld, rowHeld, everyVoice, handlesOk, songOk, stingersOk, headOk, headsOk, masterOk, weightOk, gainOk, rampsOk, voiceOk, tailOk, countsOk, wellFormed}
+use Rattle.session.proofs.Sizes.{agree}
+use Rattle.session.proofs.Walk.{asked, asked-each}
 
 -- ---- what a single check gives
 
@@ -74,6 +78,26 @@ records-has s q c e =
     let q1 = queueOk (s .desk .number) q (s .queued) in
     let c1 = captureOk (s .desk .number) c (capturedNow (s .desk)) in
     (and-l q1 c1 e, and-r q1 c1 e)
+
+-- ---- the walks
+
+module _ (s : Session) where
+  -- what the walk over the queue asks: its records in order, what they hold, and its Stingers with the voices
+  pub queue-walk : (q : List ℕ) → s .stage .sound .voices .count ≤ 16
+      → allBelow (s .queued) (asked (s .bank) (s .settings .rate) (s .desk .number) false q) && leb (stingers q (s .queued)) (16 - s .stage .sound .voices .count)
+      ≡ queueOk (s .desk .number) q (s .queued) && allBelow (s .queued) (rowHeld s q) && stingersOk s q
+  unfolding queueOk stingersOk
+  queue-walk q few =
+      ap₂ _&&_ (asked-each (s .bank) (s .settings .rate) (s .desk .number) false q (s .queued)) (leb-move (stingers q (s .queued)) (s .stage .sound .voices .count) 16 few)
+
+  -- and over the capture: its records in order, and what they hold
+  pub capture-walk : (c : List ℕ) → let m = capturedNow (s .desk) in
+      allBelow m (asked (s .bank) (s .settings .rate) (s .desk .number) true c) && leb (stingers c m) m ≡ captureOk (s .desk .number) c m && allBelow m (rowHeld s c)
+  unfolding captureOk
+  capture-walk c =
+      let m = capturedNow (s .desk) in
+      ap₂ _&&_ (asked-each (s .bank) (s .settings .rate) (s .desk .number) true c m) (le-leb (stingers c m) m (count-at-most (λ j. isStinger (rowAt c j)) m))
+      ∙ and-whole (captureOk (s .desk .number) c m && allBelow m (rowHeld s c))
 
 -- ---- all of them
 
@@ -174,10 +198,10 @@ module _ (s : Session) (q c : List ℕ) where
       let basis = and-true (and-true (and-true (k .numbers) (k .stores)) (k .bank)) (k .records) in
       and-true (and-true (and-true (and-true (and-true (and-true basis handles) (and-r h0 (songOk s) (k .song))) (k .stingers)) (and-r v0 v1 w)) ramps) (k .counts)
 
+  -- so the last check decides
+  pub decides : (t : Bool) → (t ≡ true → Checks s q c) → (Checks s q c → t ≡ true) → t ≡ wellFormed s q c
+  decides t f g = agree t (wellFormed s q c) (λ e. checked (f e)) (λ e. g (checks e))
+
   -- one that fails a check is not
   pub fails : {r t : Bool} → r ≡ t → not r ≡ true → (Checks s q c → t ≡ true) → false ≡ wellFormed s q c
-  fails {r} {t} e f field = go (two-ways (wellFormed s q c))
-    where
-      go : (wellFormed s q c ≡ true) ⊎ (wellFormed s q c ≡ false) → false ≡ wellFormed s q c
-      go (inl w) = absurd (never (sym (field (checks w)) ∙ sym e ∙ not-true r f))
-      go (inr w) = sym w
+  fails {r} e f field = decides false (λ n. absurd (never (sym n))) (λ k. sym (not-true r f) ∙ e ∙ field k)

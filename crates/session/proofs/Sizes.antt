@@ -8,7 +8,7 @@ use lib.Dec.{ltb, eqb}
 use Rattle.counts.proofs.Truth.{and-true, and-l, and-r}
 
 -- two tests agree if each holds where the other does
-agree : (a b : Bool) → (a ≡ true → b ≡ true) → (b ≡ true → a ≡ true) → a ≡ b
+pub agree : (a b : Bool) → (a ≡ true → b ≡ true) → (b ≡ true → a ≡ true) → a ≡ b
 agree true b f g = sym (f refl)
 agree false true f g = g refl
 agree false false f g = refl

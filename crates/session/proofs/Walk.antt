@@ -9,11 +9,11 @@ use native.Mathlib.Omega.{arith}
 use lib.Dec.{leb, eqb}
 use lib.ListN.{length, getD}
 use borrow.Author.Count.{below-more}
-use borrow.Author.Tests.{ne-eqb}
+use borrow.Author.Tests.{le-leb, ne-eqb}
 use Rattle.counts.specs.declared.Claim.{Claim}
 use Rattle.counts.specs.Below.{within, allBelow, countBelow}
-use Rattle.counts.proofs.Truth.{never, and-true, and-false-l, and-false-r}
-use Rattle.counts.proofs.Below.{within-high, all-true, all-false, count-at-most}
+use Rattle.counts.proofs.Truth.{never, and-true, and-false-l, and-false-r, and-assoc}
+use Rattle.counts.proofs.Below.{within-high, all-true, all-false, all-and, count-at-most}
 use Rattle.timeline.specs.declared.Row.{Row}
 use Rattle.timeline.specs.Command.{claimOf}
 use Rattle.timeline.specs.Record.{readOf, isStinger}
@@ -119,3 +119,16 @@ module _ (b : Bank) (rate last : ℕ) (rising : Bool) (ws : List ℕ) where
   walked-all n most j k w l m =
       let e : j ≡ n = omega arith in
       rw (all-true asked n (λ i h. w .each i (omega arith)), sym e, w .counted) refl
+
+  -- with no record there is nothing to walk
+  pub walked-empty : (n most : ℕ) → n ≤ 0 → allBelow n asked && leb (stingers ws n) most ≡ true
+  walked-empty n most l = sym (walked-all n most 0 0 walked-none (omega arith) l) ∙ le-leb 0 most (omega arith)
+
+  -- what is asked of every record is each thing asked of every record
+  pub asked-each : (n : ℕ) → allBelow n asked
+      ≡ allBelow n (λ j. cond rising (risingAt ws j) (orderedAt ws j)) && allBelow n (λ j. entryOk last (rowAt ws j)) && allBelow n (λ j. claimOk b rate (claimOf (readOf (rowAt ws j))))
+  asked-each n =
+      let o : ℕ → Bool = λ j. cond rising (risingAt ws j) (orderedAt ws j) in
+      let e : ℕ → Bool = λ j. entryOk last (rowAt ws j) in
+      let h : ℕ → Bool = λ j. claimOk b rate (claimOf (readOf (rowAt ws j))) in
+      all-and o (λ j. e j && h j) n ∙ ap (λ t. allBelow n o && t) (all-and e h n) ∙ sym (and-assoc (allBelow n o) (allBelow n e) (allBelow n h))

@@ -372,7 +372,15 @@ fn voices_of(kind: u64) -> usize
 }
 
 /// The n records of a store: in its order, each in order by itself, what they hold live, of right kind and rate, and at most so many Stingers.
-fn rows_ok(b: Bank, rate: u32, last: u64, rising: bool, most: usize, store: &[u64], n: usize) -> bool
+fn rows_ok(
+    b: Bank,
+    rate: u32,
+    last: u64,
+    rising: bool,
+    most: usize,
+    store: &[u64],
+    n: usize,
+) -> bool
     requires { ⌜ n * 5 ≤ length (now store) ⌝ }
     ensures { λ r. ⌜ r ≡ allBelow n (λ j. cond rising (risingAt (now (store .entry)) j) (orderedAt (now (store .entry)) j) && (entryOk last (rowAt (now (store .entry)) j) && claimOk b rate (claimOf (readOf (rowAt (now (store .entry)) j))))) && leb (stingers (now (store .entry)) n) most ⌝ }
 {
@@ -429,7 +437,15 @@ fn counts_ok(k: Counters, queued: usize, last: u64) -> bool
 }
 
 /// Well formed: each clause in turn, of the parts of any session with any stores.
-pub fn formed(settings: Settings, bank: Bank, stage: Stage, queued: usize, desk: Desk, queue: &[u64], capture: &[u64]) -> bool
+pub fn formed(
+    settings: Settings,
+    bank: Bank,
+    stage: Stage,
+    queued: usize,
+    desk: Desk,
+    queue: &[u64],
+    capture: &[u64],
+) -> bool
     ensures { λ r. ⌜ r ≡ wellFormed (record { settings = settings; bank = bank; stage = stage; queued = queued; desk = desk }) (now (queue .entry)) (now (capture .entry)) ⌝ }
 {
     let captured = captured_now(desk);
@@ -458,12 +474,28 @@ pub fn formed(settings: Settings, bank: Bank, stage: Stage, queued: usize, desk:
         return false;
     }
     if queued > 0 {
-        if !rows_ok(bank, settings.rate, desk.number, false, 16 - count, queue, queued) {
+        if !rows_ok(
+            bank,
+            settings.rate,
+            desk.number,
+            false,
+            16 - count,
+            queue,
+            queued,
+        ) {
             return false;
         }
     }
     if captured > 0 {
-        if !rows_ok(bank, settings.rate, desk.number, true, captured, capture, captured) {
+        if !rows_ok(
+            bank,
+            settings.rate,
+            desk.number,
+            true,
+            captured,
+            capture,
+            captured,
+        ) {
             return false;
         }
     }
@@ -489,7 +521,15 @@ pub fn formed(settings: Settings, bank: Bank, stage: Stage, queued: usize, desk:
 pub fn well_formed(s: Session, queue: &[u64], capture: &[u64]) -> bool
     ensures { λ r. ⌜ r ≡ wellFormed s (now (queue .entry)) (now (capture .entry)) ⌝ }
 {
-    formed(s.settings, s.bank, s.stage, s.queued, s.desk, queue, capture)
+    formed(
+        s.settings,
+        s.bank,
+        s.stage,
+        s.queued,
+        s.desk,
+        queue,
+        capture,
+    )
 }
 
 /// The same of a session in its parts.
