@@ -159,7 +159,7 @@ fn fill(
     }
 }
 
-/// A block over a session's parts.
+/// A block over a session's parts, of which it gives what it changes.
 pub fn make(
     settings: Settings,
     bank: Bank,

@@ -532,28 +532,6 @@ pub fn well_formed(s: Session, queue: &[u64], capture: &[u64]) -> bool
     )
 }
 
-/// The same of a session in its parts.
-pub fn formed(
-    settings: Settings,
-    bank: Bank,
-    stage: Stage,
-    queued: usize,
-    desk: Desk,
-    queue: &[u64],
-    capture: &[u64],
-) -> bool
-    ensures { λ r. ⌜ r ≡ wellFormed (record { settings = settings; bank = bank; stage = stage; queued = queued; desk = desk }) (now (queue .entry)) (now (capture .entry)) ⌝ }
-{
-    let s = Session {
-        settings,
-        bank,
-        stage,
-        queued,
-        desk,
-    };
-    well_formed(s, queue, capture)
-}
-
 /// 1 alone: start capture, replay, snapshot and metrics weigh nothing else.
 pub fn weigh_only(s: Session, queue: &[u64], capture: &[u64]) -> Weighed
     ensures { λ r. ⌜ r ≡ weighOnly s (now (queue .entry)) (now (capture .entry)) ⌝ }
