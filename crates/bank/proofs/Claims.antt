@@ -10,7 +10,7 @@ use Rattle.counts.specs.Handles.{sameHandle, claims}
 use Rattle.counts.specs.declared.Handle.{Handle}
 use Rattle.counts.specs.declared.Claim.{Claim}
 use Rattle.counts.specs.declared.SongFrame.{SongFrame}
-use Rattle.counts.proofs.Truth.{never}
+use Rattle.counts.proofs.Truth.{never, or-none}
 use Rattle.counts.proofs.Below.{within-low, within-high}
 use Rattle.bank.specs.declared.Kind.{Kind}
 use Rattle.bank.specs.declared.Clip.{Clip}
@@ -35,15 +35,11 @@ pub record StingerHeld (b : Bank) (rate : ℕ) (h : Handle) : Type 0 where
   pub stinger : clipOf b h .kind ≡ Kind.Stinger
   pub rated : clipOf b h .rate ≡ rate
 
-neither : (a b : Bool) → not (a || b) ≡ true → (a ≡ false) × (b ≡ false)
-neither false b e = (refl, not-true b e)
-neither true b e = absurd (never (sym e))
-
 -- where nothing is wrong with a claim its handle is live, its clip of the right kind and rate
 right : (rate : ℕ) (q : Claim) (l : Bool) (k : Kind) (r : ℕ) → let x : Stands = cond l (clipStands k r) Stands.Stale in not (isStale x || wrongKind q x || wrongRate rate x) ≡ true
     → (l ≡ true) × (wrongKind q (clipStands k r) ≡ false) × (r ≡ rate)
-right rate q true (Kind.Song n) r e = let t = neither (wrongKind q (Stands.Song r)) (not (eqb r rate)) e in (refl, t .0, eqb-true r rate (not-false (eqb r rate) (t .1)))
-right rate q true Kind.Stinger r e = let t = neither (wrongKind q (Stands.Stinger r)) (not (eqb r rate)) e in (refl, t .0, eqb-true r rate (not-false (eqb r rate) (t .1)))
+right rate q true (Kind.Song n) r e = let t = or-none (wrongKind q (Stands.Song r)) (not (eqb r rate)) (not-true _ e) in (refl, t .0, eqb-true r rate (not-false (eqb r rate) (t .1)))
+right rate q true Kind.Stinger r e = let t = or-none (wrongKind q (Stands.Stinger r)) (not (eqb r rate)) (not-true _ e) in (refl, t .0, eqb-true r rate (not-false (eqb r rate) (t .1)))
 right rate q false k r e = absurd (never (sym e))
 
 is-song : (k : Kind) (r : ℕ) → standsStinger (clipStands k r) ≡ false → (n : SongFrame) × (k ≡ Kind.Song n)

@@ -31,10 +31,10 @@ pub enum Kind {
 /// A loaded clip: where it lies in the pool, in frames, and what it is.
 pub struct Clip {
     pub serial: u32,
+    pub rate: u32,
     pub kind: Kind,
     pub start: u64,
     pub frames: u64,
-    pub rate: u32,
 }
 
 /// The slots: the used ones are marked in one number, and `last` is the last serial given.

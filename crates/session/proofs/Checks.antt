@@ -70,34 +70,33 @@ rooms s q c n e =
     let l = stores-has (s .settings) q c e in
     (omega arith, omega arith)
 
--- records that pass their check are a queue and a capture in order
-pub records-has : (s : Session) (q c : List ℕ) → recordsOk s q c ≡ true
-    → (queueOk (s .desk .number) q (s .queued) ≡ true) × (captureOk (s .desk .number) c (capturedNow (s .desk)) ≡ true)
-unfolding recordsOk
-records-has s q c e =
-    let q1 = queueOk (s .desk .number) q (s .queued) in
-    let c1 = captureOk (s .desk .number) c (capturedNow (s .desk)) in
-    (and-l q1 c1 e, and-r q1 c1 e)
-
 -- ---- the walks
 
+-- of the queue: its records in order, what they hold, and its Stingers with the voices
+abbrev pub queueFits : Session → List ℕ → Bool
+queueFits s q = queueOk (s .desk .number) q (s .queued) && allBelow (s .queued) (rowHeld s q) && stingersOk s q
+
+-- of the capture: its records in order, and what they hold
+abbrev pub captureFits : Session → List ℕ → Bool
+captureFits s c = captureOk (s .desk .number) c (capturedNow (s .desk)) && allBelow (capturedNow (s .desk)) (rowHeld s c)
+
 module _ (s : Session) where
-  -- what the walk over the queue asks: its records in order, what they hold, and its Stingers with the voices
+  -- so much is asked by the walk over the queue
   pub queue-walk : (q : List ℕ) → s .stage .sound .voices .count ≤ 16
       → allBelow (s .queued) (asked (s .bank) (s .settings .rate) (s .desk .number) false q) && leb (stingers q (s .queued)) (16 - s .stage .sound .voices .count)
-      ≡ queueOk (s .desk .number) q (s .queued) && allBelow (s .queued) (rowHeld s q) && stingersOk s q
+      ≡ queueFits s q
   unfolding queueOk stingersOk
   queue-walk q few =
       ap₂ _&&_ (asked-each (s .bank) (s .settings .rate) (s .desk .number) false q (s .queued)) (leb-move (stingers q (s .queued)) (s .stage .sound .voices .count) 16 few)
 
-  -- and over the capture: its records in order, and what they hold
+  -- and by that over the capture
   pub capture-walk : (c : List ℕ) → let m = capturedNow (s .desk) in
-      allBelow m (asked (s .bank) (s .settings .rate) (s .desk .number) true c) && leb (stingers c m) m ≡ captureOk (s .desk .number) c m && allBelow m (rowHeld s c)
+      allBelow m (asked (s .bank) (s .settings .rate) (s .desk .number) true c) && leb (stingers c m) m ≡ captureFits s c
   unfolding captureOk
   capture-walk c =
       let m = capturedNow (s .desk) in
       ap₂ _&&_ (asked-each (s .bank) (s .settings .rate) (s .desk .number) true c m) (le-leb (stingers c m) m (count-at-most (λ j. isStinger (rowAt c j)) m))
-      ∙ and-whole (captureOk (s .desk .number) c m && allBelow m (rowHeld s c))
+      ∙ and-whole (captureFits s c)
 
 -- ---- all of them
 
@@ -106,12 +105,10 @@ pub record Checks (s : Session) (q c : List ℕ) : Type 0 where
   pub numbers : numbersOk s ≡ true
   pub stores : storesOk (s .settings) q c ≡ true
   pub bank : bankOk (s .bank) (s .settings .pool) ≡ true
-  pub records : recordsOk s q c ≡ true
   pub song : held s (Claim.Song (s .stage .playhead .song)) && songOk s ≡ true
   pub tail : tailOk s (s .stage .sound .fade .tail) ≡ true
-  pub queue : allBelow (s .queued) (rowHeld s q) ≡ true
-  pub capture : allBelow (capturedNow (s .desk)) (rowHeld s c) ≡ true
-  pub stingers : stingersOk s q ≡ true
+  pub queue : queueFits s q ≡ true
+  pub capture : captureFits s c ≡ true
   pub voices : everyVoice s (voiceOk s) ≡ true
   pub master : masterOk s ≡ true
   pub counts : countsOk s ≡ true
@@ -131,7 +128,7 @@ passes {r} e f = sym e ∙ not-false r f
 module _ (s : Session) (q c : List ℕ) where
   -- a well formed session passes every check
   pub checks : wellFormed s q c ≡ true → Checks s q c
-  unfolding wellFormed handlesOk headsOk rampsOk
+  unfolding wellFormed recordsOk handlesOk headsOk rampsOk
   checks e =
       let n : Bool = numbersOk s in
       let st : Bool = storesOk (s .settings) q c in
@@ -151,6 +148,9 @@ module _ (s : Session) (q c : List ℕ) where
       let e4 = and-l (n && st && b && r) h e5 in
       let e3 = and-l (n && st && b) r e4 in
       let e2 = and-l (n && st) b e3 in
+      let er : r ≡ true = and-r (n && st && b) r e4 in
+      let r0 = queueOk (s .desk .number) q (s .queued) in
+      let r1 = captureOk (s .desk .number) c (capturedNow (s .desk)) in
       let eh : h ≡ true = and-r (n && st && b && r) h e5 in
       let erp : rp ≡ true = and-r (n && st && b && r && h && sg && sn && hd) rp e9 in
       let h0 = held s (Claim.Song (s .stage .playhead .song)) in
@@ -169,12 +169,10 @@ module _ (s : Session) (q c : List ℕ) where
         numbers = and-l n st e2;
         stores = and-r n st e2;
         bank = and-r (n && st) b e3;
-        records = and-r (n && st && b) r e4;
         song = and-true (and-l h0 h1 k1) (and-r (n && st && b && r && h) sg e6);
         tail = and-true (and-r h0 h1 k1) (and-r g0 g1 m2);
-        queue = and-r (h0 && h1 && h2) h3 k3;
-        capture = and-r (h0 && h1 && h2 && h3) h4 eh;
-        stingers = and-r (n && st && b && r && h && sg) sn e7;
+        queue = and-true (and-true (and-l r0 r1 er) (and-r (h0 && h1 && h2) h3 k3)) (and-r (n && st && b && r && h && sg) sn e7);
+        capture = and-true (and-r r0 r1 er) (and-r (h0 && h1 && h2 && h3) h4 eh);
         voices = voices-each s ∙ and-true (and-true (and-r (h0 && h1) h2 k2) (and-r (n && st && b && r && h && sg && sn) hd e8)) (and-r (g0 && g1) g2 erp);
         master = and-l g0 g1 m2;
         counts = and-r (n && st && b && r && h && sg && sn && hd && rp) ct e;
@@ -182,7 +180,7 @@ module _ (s : Session) (q c : List ℕ) where
 
   -- and one that passes every check is well formed
   pub checked : Checks s q c → wellFormed s q c ≡ true
-  unfolding wellFormed handlesOk headsOk rampsOk
+  unfolding wellFormed recordsOk handlesOk headsOk rampsOk
   checked k =
       let h0 = held s (Claim.Song (s .stage .playhead .song)) in
       let t0 = tailHeld s (s .stage .sound .fade .tail) in
@@ -192,11 +190,17 @@ module _ (s : Session) (q c : List ℕ) where
       let v2 = everyVoice s (gainOk s) in
       let v = sym (voices-each s) ∙ k .voices in
       let w = and-l (v0 && v1) v2 v in
+      let q0 = queueOk (s .desk .number) q (s .queued) in
+      let q1 = allBelow (s .queued) (rowHeld s q) in
+      let kq = and-l (q0 && q1) (stingersOk s q) (k .queue) in
+      let c0 = captureOk (s .desk .number) c (capturedNow (s .desk)) in
+      let c1 = allBelow (capturedNow (s .desk)) (rowHeld s c) in
+      let records : recordsOk s q c ≡ true = and-true (and-l q0 q1 kq) (and-l c0 c1 (k .capture)) in
       let handles : handlesOk s q c ≡ true =
-      and-true (and-true (and-true (and-true (and-l h0 (songOk s) (k .song)) (and-l t0 t1 (k .tail))) (and-l v0 v1 w)) (k .queue)) (k .capture) in
+      and-true (and-true (and-true (and-true (and-l h0 (songOk s) (k .song)) (and-l t0 t1 (k .tail))) (and-l v0 v1 w)) (and-r q0 q1 kq)) (and-r c0 c1 (k .capture)) in
       let ramps : rampsOk s ≡ true = and-true (and-true (k .master) (and-r t0 t1 (k .tail))) (and-r (v0 && v1) v2 v) in
-      let basis = and-true (and-true (and-true (k .numbers) (k .stores)) (k .bank)) (k .records) in
-      and-true (and-true (and-true (and-true (and-true (and-true basis handles) (and-r h0 (songOk s) (k .song))) (k .stingers)) (and-r v0 v1 w)) ramps) (k .counts)
+      let basis = and-true (and-true (and-true (k .numbers) (k .stores)) (k .bank)) records in
+      and-true (and-true (and-true (and-true (and-true (and-true basis handles) (and-r h0 (songOk s) (k .song))) (and-r (q0 && q1) (stingersOk s q) (k .queue))) (and-r v0 v1 w)) ramps) (k .counts)
 
   -- so the last check decides
   pub decides : (t : Bool) → (t ≡ true → Checks s q c) → (Checks s q c → t ≡ true) → t ≡ wellFormed s q c

@@ -7,6 +7,7 @@ use lib.Dec.{leb}
 use lib.ListN.{length}
 use borrow.Author.Tests.{le-leb, leb-true, eq-eqb}
 use Rattle.counts.specs.declared.Claim.{Claim}
+use Rattle.counts.specs.Below.{allBelow}
 use Rattle.counts.proofs.Truth.{and-l, and-r, and-true}
 use Rattle.counts.proofs.Below.{all-at, all-true}
 use Rattle.ramp.specs.Number.{zero32, two32, between}
@@ -17,8 +18,8 @@ use Rattle.oneshot.specs.Mix.{voiceAt}
 use Rattle.stage.specs.Sound.{masterFrames}
 use Rattle.session.specs.declared.Session.{Session}
 use Rattle.session.specs.Session.{extentNow, capturedNow}
-use Rattle.session.specs.WellFormed.{settingsOk, numbersOk, storesOk, recordsOk, held, tailHeld, voiceHeld, rowHeld, songOk, stingersOk, headOk, masterOk, weightOk, gainOk, voiceOk, countsOk, wellFormed}
-use Rattle.session.proofs.Checks.{numbers-has, stores-has, records-has, checks, checked}
+use Rattle.session.specs.WellFormed.{settingsOk, numbersOk, storesOk, held, tailHeld, voiceHeld, rowHeld, songOk, stingersOk, headOk, masterOk, weightOk, gainOk, voiceOk, countsOk, wellFormed}
+use Rattle.session.proofs.Checks.{numbers-has, stores-has, checks, checked}
 
 pub record Parts (s : Session) (q c : List ℕ) : Type 0 where
   pub settings : settingsOk (s .settings) ≡ true
@@ -56,7 +57,11 @@ module _ (s : Session) (q c : List ℕ) where
       let vs = s .stage .sound .voices in
       let n = numbers-has s (k .numbers) in
       let sizes = stores-has (s .settings) q c (k .stores) in
-      let rows = records-has s q c (k .records) in
+      let q0 = queueOk (s .desk .number) q (s .queued) in
+      let q1 = allBelow (s .queued) (rowHeld s q) in
+      let rows = and-l (q0 && q1) (stingersOk s q) (k .queue) in
+      let c0 = captureOk (s .desk .number) c (capturedNow (s .desk)) in
+      let c1 = allBelow (capturedNow (s .desk)) (rowHeld s c) in
       let h0 = held s (Claim.Song (s .stage .playhead .song)) in
       let p0 = leb (s .stage .playhead .transport .position .0) (extentNow s) in
       let p1 = loopFits (extentNow s) (s .stage .playhead .transport .looped) in
@@ -80,16 +85,16 @@ module _ (s : Session) (q c : List ℕ) where
         queue-size = sizes .0;
         capture-size = sizes .1;
         bank = k .bank;
-        queue = rows .0;
-        capture = rows .1;
+        queue = and-l q0 q1 rows;
+        capture = and-l c0 c1 (k .capture);
         song = and-l h0 (songOk s) (k .song);
         tail = and-l t0 t1 (k .tail);
         voices-held = λ i l. and-l (v0 i) (v1 i) (and-l (v0 i && v1 i) (v2 i) (at i l));
-        queue-held = λ j l. all-at (rowHeld s q) (s .queued) j (k .queue) l;
-        capture-held = λ j l. all-at (rowHeld s c) (capturedNow (s .desk)) j (k .capture) l;
+        queue-held = λ j l. all-at (rowHeld s q) (s .queued) j (and-r q0 q1 rows) l;
+        capture-held = λ j l. all-at (rowHeld s c) (capturedNow (s .desk)) j (and-r c0 c1 (k .capture)) l;
         position = leb-true (s .stage .playhead .transport .position .0) (extentNow s) (and-l p0 p1 place);
         looped = and-r p0 p1 place;
-        stinging = leb-true (stingers q (s .queued) + vs .count) 16 (k .stingers);
+        stinging = leb-true (stingers q (s .queued) + vs .count) 16 (and-r (q0 && q1) (stingersOk s q) (k .queue));
         heads = λ i l. and-r (v0 i) (v1 i) (and-l (v0 i && v1 i) (v2 i) (at i l));
         master = leb-true (s .stage .sound .master .remaining) masterFrames (and-l g0 g1 (k .master));
         master-target = and-r g0 g1 (k .master);
@@ -101,7 +106,7 @@ module _ (s : Session) (q c : List ℕ) where
 
   -- and one that has every part is well formed
   pub whole : Parts s q c → wellFormed s q c ≡ true
-  unfolding numbersOk storesOk recordsOk songOk stingersOk masterOk countsOk
+  unfolding numbersOk storesOk songOk stingersOk masterOk countsOk
   whole p =
       let vs = s .stage .sound .voices in
       checked s q c
@@ -109,12 +114,10 @@ module _ (s : Session) (q c : List ℕ) where
         numbers = and-true (and-true (and-true (and-true (p .settings) (le-leb _ _ (p .clock))) (le-leb _ _ (p .queued))) (le-leb _ _ (p .captured))) (le-leb _ _ (p .voices));
         stores = and-true (eq-eqb _ _ (p .queue-size)) (eq-eqb _ _ (p .capture-size));
         bank = p .bank;
-        records = and-true (p .queue) (p .capture);
         song = and-true (p .song) (and-true (le-leb _ _ (p .position)) (p .looped));
         tail = and-true (p .tail) (p .weight);
-        queue = all-true (rowHeld s q) (s .queued) (p .queue-held);
-        capture = all-true (rowHeld s c) (capturedNow (s .desk)) (p .capture-held);
-        stingers = le-leb _ _ (p .stinging);
+        queue = and-true (and-true (p .queue) (all-true (rowHeld s q) (s .queued) (p .queue-held))) (le-leb _ _ (p .stinging));
+        capture = and-true (p .capture) (all-true (rowHeld s c) (capturedNow (s .desk)) (p .capture-held));
         voices = all-true (λ i. voiceOk s (voiceAt vs i)) (vs .count) (λ i l. and-true (and-true (p .voices-held i l) (p .heads i l)) (p .gains i l));
         master = and-true (le-leb _ _ (p .master)) (p .master-target);
         counts = and-true (le-leb _ _ (p .executed)) (le-leb _ _ (p .special));

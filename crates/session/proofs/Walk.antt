@@ -10,9 +10,8 @@ use lib.Dec.{leb, eqb}
 use lib.ListN.{length, getD}
 use borrow.Author.Count.{below-more}
 use borrow.Author.Tests.{le-leb, ne-eqb}
-use Rattle.counts.specs.declared.Claim.{Claim}
 use Rattle.counts.specs.Below.{within, allBelow, countBelow}
-use Rattle.counts.proofs.Truth.{never, and-true, and-false-l, and-false-r, and-assoc}
+use Rattle.counts.proofs.Truth.{or-none, and-true, and-false-l, and-false-r, and-assoc}
 use Rattle.counts.proofs.Below.{within-high, all-true, all-false, all-and, count-at-most}
 use Rattle.timeline.specs.declared.Row.{Row}
 use Rattle.timeline.specs.Command.{claimOf}
@@ -33,10 +32,6 @@ clip-read a b same n slot p d e l = ap (λ (z : Bank). clipIn z slot) same ∙ a
 
 -- ---- one record
 
-neither : (a b : Bool) → a || b ≡ false → (a ≡ false) × (b ≡ false)
-neither false b e = (refl, e)
-neither true b e = absurd (never e)
-
 -- a record of the first seven kinds is no Swap and no Stinger
 pub clipless : (x : Row) → within 1 7 (x .kind) ≡ true → eqb (x .kind) 9 || eqb (x .kind) 10 ≡ false
 clipless x e =
@@ -52,7 +47,7 @@ module _ (b : Bank) (rate last : ℕ) (x : Row) where
   pub row-clipless : eqb (x .kind) 9 || eqb (x .kind) 10 ≡ false → rowOk ≡ entryOk last x
   unfolding claimOk
   row-clipless e =
-      let n = neither (eqb (x .kind) 9) (eqb (x .kind) 10) e in
+      let n = or-none (eqb (x .kind) 9) (eqb (x .kind) 10) e in
       rw (claim-read x, n .0, n .1) (and-whole (entryOk last x))
 
   -- and of the first seven kinds the number alone is asked
@@ -103,7 +98,7 @@ module _ (b : Bank) (rate last : ℕ) (rising : Bool) (ws : List ℕ) where
     -- one more that holds no clip, and so is no Stinger
     pub walked-past : (k : ℕ) → Walked j k → cond rising (risingAt ws j) (orderedAt ws j) ≡ true → rowOk b rate last x ≡ true
         → eqb (x .kind) 9 || eqb (x .kind) 10 ≡ false → Walked (j + 1) k
-    walked-past k w o r e = walked-next k k w o r (rw (neither (eqb (x .kind) 9) (eqb (x .kind) 10) e .1) (omega arith))
+    walked-past k w o r e = walked-next k k w o r (rw (or-none (eqb (x .kind) 9) (eqb (x .kind) 10) e .1) (omega arith))
 
     -- one that fails by itself stops the walk,
     pub row-stops : (n most : ℕ) → j < n → rowOk b rate last x ≡ false → false ≡ allBelow n asked && leb (stingers ws n) most

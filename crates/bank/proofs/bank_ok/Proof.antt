@@ -91,8 +91,7 @@ loop2-again : tie.Need-loop2-again Inv-loop2 μ-loop2 Inv-loop μ-loop
 loop2-again c =
     let j = c .before .before .before .before .before .before .loop2 .j in
     let other = sym (c .before .before .before .before .is-used2 .ensures) ∙ c .before .before .before .if3 .taken in
-    let beside = beside-used _ _ _ j (reads (c .before .before .before .before .before .before .before .before .before .before .before .before .before .before) j _ (omega arith)) other ∙ sym (c .before .pair-ok .ensures) ∙ not-false _ (c .if4 .left) in
-    (omega (arith, c .before .before .before .before .before .loop2-test .taken), below-more _ _ (c .before .before .before .before .before .before .loop2 .inv .1) beside)
+    (search needs, below-more _ _ (c .before .before .before .before .before .before .loop2 .inv .1) (beside-used _ _ _ j (reads (c .before .before .before .before .before .before .before .before .before .before .before .before .before .before) j _ (omega arith)) other ∙ sym (c .before .pair-ok .ensures) ∙ not-false _ (c .if4 .left)))
 
 add-j-2 : tie.Need-add-j-2 Inv-loop2 μ-loop2 Inv-loop μ-loop
 add-j-2 c = search needs

@@ -1,6 +1,5 @@
 -- `voices_of` meets its contract.
 use borrow.Author.Tests.{eq-eqb, ne-eqb}
-use borrow.Author.Needs.{needs}
 use Rattle.session.proofs.voices_of.Statement.{statement}
 use Rattle.session.proofs.voices_of.Tie as tie
 
