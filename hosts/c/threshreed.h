@@ -10,7 +10,7 @@
  * Every `tr_...` call answers 0 or a refusal's number. A refused call leaves the session and all stores as they were;
  * 15 alone raises the dropped count.
  *
- * A call needs 19 to 24 KB of stack, its caller's copies of the session among them, however much there is to play. Who
+ * A call needs 19 to 27 KB of stack, its caller's copies of the session among them, however much there is to play. Who
  * makes one should have THRESHREED_STACK bytes left: stack.c measures each call, and fails above that.
  */
 #ifndef THRESHREED_H
