@@ -3,7 +3,6 @@ ghost use mathlib.Core.Path.{_≡_};
 ghost use mathlib.Core.Bool.{true};
 ghost use Prim.Native.Nat.{_+_, _-_, _*_, _≤_, _<_, min};
 ghost use lib.ListN.{length};
-ghost use Rattle.ramp.specs.Number.{zero32};
 ghost use Rattle.ramp.specs.Ramp.{tickOf};
 ghost use Rattle.passes.specs.Over.{over};
 ghost use Rattle.passes.specs.Adds.{shareOf, ticksOf, stillAdds, streamAdds, fourAdds, adds, bothAdds, stillBoth, cleared, Reads};
@@ -16,7 +15,7 @@ pub struct Part {
 }
 
 /// The sample of a part at a place of the run, as heard.
-pub fn share(pool: &[f32], part: Part, k: usize) -> f32
+fn share(pool: &[f32], part: Part, k: usize) -> f32
     requires { ⌜ Reads (length (now pool)) part (k + 1) ⌝ }
     ensures { λ r. ⌜ r ≡ shareOf (now (pool .entry)) part k ⌝ }
 {
@@ -40,7 +39,7 @@ pub fn clear(out: &mut [f32], to: usize)
 }
 
 /// A part × a gain that stands still is added, from a place to a place.
-pub fn add_still(pool: &[f32], part: Part, out: &mut [f32], from: usize, to: usize, gain: f32)
+fn add_still(pool: &[f32], part: Part, out: &mut [f32], from: usize, to: usize, gain: f32)
     requires { ⌜ (from ≤ to) × (to ≤ length (now out)) × Reads (length (now pool)) part to ⌝ }
     ensures { λ r. ⌜ now (out .exit) ≡ over (stillAdds (now (pool .entry)) part gain) from (to - from) (now (out .entry)) ⌝ }
 {

@@ -1,6 +1,6 @@
 -- The sums of a run: voice after voice over all its places is, at each place, voice after voice. Assumes nothing.
 use mathlib.Core.Path.{_≡_, refl, sym, ap, _∙_}
-use mathlib.Core.Bool.{Bool, true}
+use mathlib.Core.Bool.{true}
 use mathlib.Core.List.{List, [], _∷_, _++_, map, map-append}
 use Prim.Native.Nat.{ℕ, zero, suc, _+_, _-_, _*_, _/_, _≤_, _<_}
 use native.Mathlib.Numerals.{add-one}
@@ -8,21 +8,17 @@ use native.Mathlib.Omega.{arith}
 use lib.ListN.{length, getD, take, drop, set, length-map, length-set}
 use lib.Seq.{take-suc, drop-cons, append-snoc, set-at, set-getD, getD-append-add, getD-drop, length-take-le}
 use lib.Ieee.{Float, nan, binary32, add, mul}
-use Rattle.ramp.specs.Number.{zero32}
 use Rattle.bank.specs.declared.Clip.{Clip}
 use Rattle.bank.specs.Recording.{Recording, View, recordingOf}
 use Rattle.oneshot.specs.declared.Voice.{Voice}
-use Rattle.oneshot.specs.declared.Voices.{Voices}
-use Rattle.oneshot.specs.Heard.{heardOf, sampleAt}
-use Rattle.oneshot.specs.Mix.{sounding}
+use Rattle.oneshot.specs.Heard.{heardOf}
 use Rattle.oneshot.proofs.Places.{place-inside}
-use Rattle.passes.specs.declared.Part.{Part}
 use Rattle.passes.specs.Over.{over}
 use Rattle.passes.specs.Adds.{shareOf, ticksOf, gainAt, adds, streamAdds, fourAdds, cleared}
 use Rattle.passes.proofs.Four.{four-adds}
 use Rattle.passes.proofs.Ticks.{gain-landed}
 use Rattle.passes.proofs.Over.{length-over, over-same, over-again}
-use Rattle.runs.specs.Voices.{voiceBy, voicesBy, LastsIn, Still, streamOf, shareIn, voiceAdds, voiceOn, sumFrom, sums}
+use Rattle.runs.specs.Voices.{voiceBy, LastsIn, Still, streamOf, shareIn, voiceAdds, voiceOn, sumFrom, sums}
 
 -- ---- one voice
 

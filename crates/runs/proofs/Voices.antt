@@ -1,27 +1,25 @@
 -- A frame of voices in the middle of a run: each adds its share and moves on, and none leaves. Assumes nothing.
-use mathlib.Core.Path.{_≡_, refl, sym, ap, _∙_, subst}
+use mathlib.Core.Path.{_≡_, refl, _∙_}
 use mathlib.Core.Bool.{true}
-use mathlib.Core.List.{List, [], _∷_, _++_, map}
-use Prim.Native.Nat.{ℕ, zero, suc, _+_, _*_, _/_, _≤_, _<_}
+use mathlib.Core.List.{List, [], _∷_, map}
+use Prim.Native.Nat.{ℕ, suc, _+_, _*_, _≤_, _<_}
 use native.Mathlib.Numerals.{add-one}
 use native.Mathlib.Omega.{arith}
-use lib.Dec.{ltb}
-use lib.ListN.{length, getD, take, drop, length-map}
-use lib.Seq.{length-take-le, take-at, drop-at, getD-take}
-use lib.Ieee.{Float, binary32, add}
+use lib.ListN.{length, drop, length-map}
+use lib.Seq.{length-take-le, take-at, drop-at}
+use lib.Ieee.{binary32, add}
 use borrow.Author.Tests.{lt-ltb}
 use Rattle.ramp.specs.Number.{zero32}
 use Rattle.bank.specs.Recording.{View}
 use Rattle.oneshot.specs.declared.Voice.{Voice}
 use Rattle.oneshot.specs.declared.Voices.{Voices}
 use Rattle.oneshot.specs.declared.Pair.{Pair}
-use Rattle.oneshot.specs.declared.Sounded.{Sounded}
 use Rattle.oneshot.specs.Pair.{pair, silence}
 use Rattle.oneshot.specs.Voice.{voiceOf}
-use Rattle.oneshot.specs.Mix.{Mix, mixOf, mixIn, blankVoice, sounding}
+use Rattle.oneshot.specs.Mix.{mixOf, mixIn, sounding}
 use Rattle.oneshot.specs.Sounding.{Each}
 use Rattle.oneshot.proofs.Next.{Every, every}
-use Rattle.passes.specs.Adds.{ticksOf, gainAt}
+use Rattle.passes.specs.Adds.{ticksOf}
 use Rattle.passes.proofs.Moving.{frame-left, frame-right}
 use Rattle.runs.specs.Voices.{voiceBy, voicesBy, Lasts, shareIn, sumFrom}
 

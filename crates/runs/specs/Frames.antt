@@ -10,7 +10,7 @@ use Rattle.timeline.specs.declared.QueueRecord.{QueueRecord}
 use Rattle.transport.specs.Transport.{transportFits}
 use Rattle.bank.specs.declared.Bank.{Bank}
 use Rattle.bank.specs.Slots.{clipOf, extentOf}
-use Rattle.bank.specs.Recording.{View, viewOf}
+use Rattle.bank.specs.Recording.{View}
 use Rattle.oneshot.specs.declared.Pair.{Pair}
 use Rattle.stage.specs.declared.Settings.{Settings}
 use Rattle.stage.specs.declared.Stage.{Stage}

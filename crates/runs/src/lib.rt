@@ -38,7 +38,7 @@ use transport::LoopRange;
 use transport::Transport;
 
 /// So many frames of a voice whose clip has more: each adds its share.
-pub fn voice_on(v: Voice, pool: &[f32], clip: Clip, out: &mut [f32], frames: usize) -> Voice
+fn voice_on(v: Voice, pool: &[f32], clip: Clip, out: &mut [f32], frames: usize) -> Voice
     requires { ⌜ LastsIn (length (now pool)) frames v clip × (frames * 2 ≤ length (now out)) ⌝ }
     ensures { λ r. ⌜ (r ≡ voiceBy frames v) × (now (out .exit) ≡ voiceOn (now (pool .entry)) clip frames v (now (out .entry))) ⌝ }
 {
@@ -154,7 +154,7 @@ fn four_on(
 }
 
 /// The frames of a voice before its last one.
-pub fn voice_ahead(v: Voice, clip: Clip) -> usize
+fn voice_ahead(v: Voice, clip: Clip) -> usize
     requires { ⌜ (v .head .0 + 1 < clip .frames * 2) × (clip .frames * 2 < 9223372036854775808) ⌝ }
     ensures { λ r. ⌜ v .head .0 + r * 2 < clip .frames * 2 ⌝ }
 {
@@ -164,7 +164,7 @@ pub fn voice_ahead(v: Voice, clip: Clip) -> usize
 }
 
 /// At most so many frames, before any voice's last one.
-pub fn voices_ahead(voices: Voices, pool: &[f32], bank: Bank, most: usize) -> usize
+fn voices_ahead(voices: Voices, pool: &[f32], bank: Bank, most: usize) -> usize
     requires { ⌜ Ready (length (now pool)) bank voices ⌝ }
     ensures { λ r. ⌜ (r ≤ most) × Each (Lasts (viewOf (now (pool .entry)) bank) r) voices ⌝ }
 {
@@ -189,7 +189,7 @@ pub fn voices_ahead(voices: Voices, pool: &[f32], bank: Bank, most: usize) -> us
 }
 
 /// The stinger sums of so many frames, and the voices after them.
-pub fn mix_on(voices: Voices, pool: &[f32], bank: Bank, out: &mut [f32], frames: usize) -> Voices
+fn mix_on(voices: Voices, pool: &[f32], bank: Bank, out: &mut [f32], frames: usize) -> Voices
     requires { ⌜ Ready (length (now pool)) bank voices × Each (Lasts (viewOf (now pool) bank) frames) voices × (frames * 2 ≤ length (now out)) ⌝ }
     ensures { λ r. ⌜ (r ≡ voicesBy frames voices) × (now (out .exit) ≡ over (sums (viewOf (now (pool .entry)) bank) (sounding voices)) 0 (frames * 2) (now (out .entry))) ⌝ }
 {
