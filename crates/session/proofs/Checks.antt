@@ -1,19 +1,17 @@
 -- Well formed as the code weighs it: one check after the other, and all that is asked of a voice at once. Assumes nothing.
 use mathlib.Core.Path.{_≡_, sym, ap, ap₂, _∙_}
-use mathlib.Core.Bool.{Bool, true, false, not, _&&_, and-true as and-whole}
+use mathlib.Core.Bool.{Bool, true, false, not, _&&_}
 use mathlib.Core.List.{List}
 use Prim.Native.Nat.{ℕ, _-_, _*_, _^_, _≤_}
 use native.Mathlib.Omega.{arith}
 use lib.Dec.{leb, eqb}
 use lib.ListN.{length}
-use borrow.Author.Tests.{le-leb, leb-true, eqb-true, not-false}
+use borrow.Author.Tests.{leb-true, eqb-true, not-false}
 use Rattle.counts.specs.declared.Claim.{Claim}
 use Rattle.counts.specs.Below.{allBelow}
 use Rattle.counts.proofs.Truth.{never, not-true, and-l, and-r, and-true}
-use Rattle.counts.proofs.Below.{all-and, count-at-most}
-use Rattle.timeline.specs.Record.{isStinger}
-use Rattle.timeline.specs.Store.{rowAt}
-use Rattle.timeline.specs.Queue.{queueOk, captureOk, stingers}
+use Rattle.counts.proofs.Below.{all-and}
+use Rattle.timeline.specs.Queue.{orderedAt, risingAt, queueOk, captureOk, stingers}
 use Rattle.bank.specs.WellFormed.{bankOk}
 use Rattle.bank.proofs.Sums.{leb-move}
 use Rattle.oneshot.specs.Mix.{voiceAt}
@@ -83,20 +81,17 @@ captureFits s c = captureOk (s .desk .number) c (capturedNow (s .desk)) && allBe
 module _ (s : Session) where
   -- so much is asked by the walk over the queue
   pub queue-walk : (q : List ℕ) → s .stage .sound .voices .count ≤ 16
-      → allBelow (s .queued) (asked (s .bank) (s .settings .rate) (s .desk .number) false q) && leb (stingers q (s .queued)) (16 - s .stage .sound .voices .count)
+      → allBelow (s .queued) (asked (s .bank) (s .settings .rate) (s .desk .number) (orderedAt q) q) && leb (stingers q (s .queued)) (16 - s .stage .sound .voices .count)
       ≡ queueFits s q
   unfolding queueOk stingersOk
   queue-walk q few =
-      ap₂ _&&_ (asked-each (s .bank) (s .settings .rate) (s .desk .number) false q (s .queued)) (leb-move (stingers q (s .queued)) (s .stage .sound .voices .count) 16 few)
+      ap₂ _&&_ (asked-each (s .bank) (s .settings .rate) (s .desk .number) (orderedAt q) q (s .queued)) (leb-move (stingers q (s .queued)) (s .stage .sound .voices .count) 16 few)
 
   -- and by that over the capture
   pub capture-walk : (c : List ℕ) → let m = capturedNow (s .desk) in
-      allBelow m (asked (s .bank) (s .settings .rate) (s .desk .number) true c) && leb (stingers c m) m ≡ captureFits s c
+      allBelow m (asked (s .bank) (s .settings .rate) (s .desk .number) (risingAt c) c) ≡ captureFits s c
   unfolding captureOk
-  capture-walk c =
-      let m = capturedNow (s .desk) in
-      ap₂ _&&_ (asked-each (s .bank) (s .settings .rate) (s .desk .number) true c m) (le-leb (stingers c m) m (count-at-most (λ j. isStinger (rowAt c j)) m))
-      ∙ and-whole (captureFits s c)
+  capture-walk c = asked-each (s .bank) (s .settings .rate) (s .desk .number) (risingAt c) c (capturedNow (s .desk))
 
 -- ---- all of them
 

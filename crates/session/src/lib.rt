@@ -348,13 +348,10 @@ fn voices_ok(b: Bank, rate: u32, voices: Voices) -> bool
     true
 }
 
-/// A record is in order by itself, and the clip that it holds, if it holds one, is live, of right kind and rate.
-fn row_ok(used: u32, clip: Clip, rate: u32, last: u64, x: Row) -> bool
-    ensures { λ r. ⌜ ((b : Bank) → b .used ≡ used → (handleOf (x .first) .slot < 32 → clipOf b (handleOf (x .first)) ≡ clip) → r ≡ entryOk last x && claimOk b rate (claimOf (readOf x))) ⌝ }
+/// The clip that a record holds, if it holds one, is live, of right kind and rate.
+fn row_held(used: u32, clip: Clip, rate: u32, x: Row) -> bool
+    ensures { λ r. ⌜ ((b : Bank) → b .used ≡ used → (handleOf (x .first) .slot < 32 → clipOf b (handleOf (x .first)) ≡ clip) → r ≡ claimOk b rate (claimOf (readOf x))) ⌝ }
 {
-    if !timeline::entry_ok(x, last) {
-        return false;
-    }
     let h = timeline::handle_of(x.first);
     let kind = x.kind;
     match kind {
@@ -371,47 +368,62 @@ fn voices_of(kind: u64) -> usize
     if kind == 10 { 1 } else { 0 }
 }
 
-/// The n records of a store: in its order, each in order by itself, what they hold live, of right kind and rate, and at most so many Stingers.
-fn rows_ok(
-    b: Bank,
-    rate: u32,
-    last: u64,
-    rising: bool,
-    most: usize,
-    store: &[u64],
-    n: usize,
-) -> bool
+/// The n queued records: strictly ordered, each in order by itself, what they hold live, of right kind and rate, and at most so many Stingers.
+fn queued_ok(b: Bank, rate: u32, last: u64, most: usize, store: &[u64], n: usize) -> bool
     requires { ⌜ n * 5 ≤ length (now store) ⌝ }
-    ensures { λ r. ⌜ r ≡ allBelow n (λ j. cond rising (risingAt (now (store .entry)) j) (orderedAt (now (store .entry)) j) && (entryOk last (rowAt (now (store .entry)) j) && claimOk b rate (claimOf (readOf (rowAt (now (store .entry)) j))))) && leb (stingers (now (store .entry)) n) most ⌝ }
+    ensures { λ r. ⌜ r ≡ allBelow n (λ j. orderedAt (now (store .entry)) j && (entryOk last (rowAt (now (store .entry)) j) && claimOk b rate (claimOf (readOf (rowAt (now (store .entry)) j))))) && leb (stingers (now (store .entry)) n) most ⌝ }
 {
     let mut stingers: usize = 0;
     let mut j: usize = 0;
     while j < n {
-        if !timeline::in_order(store, j, rising) {
+        if !timeline::ordered_at(store, j) {
             return false;
         }
         let x = timeline::row_at(store, j);
-        if timeline::is_plain(x.kind) {
-            if !timeline::number_ok(x.number, last) {
-                return false;
-            }
-            j += 1;
-        } else if timeline::holds_clip(x.kind) {
+        if !timeline::entry_ok(x, last) {
+            return false;
+        }
+        if timeline::holds_clip(x.kind) {
             let place = bank::place_of(timeline::handle_of(x.first));
             let clip = b.clips[place];
-            if !row_ok(b.used, clip, rate, last, x) {
+            if !row_held(b.used, clip, rate, x) {
                 return false;
             }
             stingers = stingers + voices_of(x.kind);
             j += 1;
         } else {
-            if !timeline::entry_ok(x, last) {
-                return false;
-            }
             j += 1;
         }
     }
     stingers <= most
+}
+
+/// The n captured records: their numbers rise, each is in order by itself, and what they hold is live, of right kind and rate.
+fn captured_ok(b: Bank, rate: u32, last: u64, store: &[u64], n: usize) -> bool
+    requires { ⌜ n * 5 ≤ length (now store) ⌝ }
+    ensures { λ r. ⌜ r ≡ allBelow n (λ j. risingAt (now (store .entry)) j && (entryOk last (rowAt (now (store .entry)) j) && claimOk b rate (claimOf (readOf (rowAt (now (store .entry)) j))))) ⌝ }
+{
+    let mut i: usize = 0;
+    while i < n {
+        if !timeline::rising_at(store, i) {
+            return false;
+        }
+        let x = timeline::row_at(store, i);
+        if !timeline::entry_ok(x, last) {
+            return false;
+        }
+        if timeline::holds_clip(x.kind) {
+            let place = bank::place_of(timeline::handle_of(x.first));
+            let clip = b.clips[place];
+            if !row_held(b.used, clip, rate, x) {
+                return false;
+            }
+            i += 1;
+        } else {
+            i += 1;
+        }
+    }
+    true
 }
 
 /// Two counts are together at most a third, as whole numbers: their sum may pass 2^64.
@@ -474,28 +486,12 @@ pub fn formed(
         return false;
     }
     if queued > 0 {
-        if !rows_ok(
-            bank,
-            settings.rate,
-            desk.number,
-            false,
-            16 - count,
-            queue,
-            queued,
-        ) {
+        if !queued_ok(bank, settings.rate, desk.number, 16 - count, queue, queued) {
             return false;
         }
     }
     if captured > 0 {
-        if !rows_ok(
-            bank,
-            settings.rate,
-            desk.number,
-            true,
-            captured,
-            capture,
-            captured,
-        ) {
+        if !captured_ok(bank, settings.rate, desk.number, capture, captured) {
             return false;
         }
     }

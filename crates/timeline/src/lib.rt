@@ -1,11 +1,11 @@
 //! Commands and their queue: what is executed, at which frame, in which order.
 ghost use mathlib.Core.Path.{_≡_};
-ghost use mathlib.Core.Bool.{true, _&&_, _||_, cond};
+ghost use mathlib.Core.Bool.{true, _&&_, _||_};
 ghost use Prim.Native.Nat.{_+_, _-_, _*_, _≤_, _<_, _^_};
 ghost use lib.Dec.{eqb};
 ghost use lib.Ieee.{binary32, toBits, ofBits, le};
 ghost use lib.ListN.{length};
-ghost use Rattle.counts.specs.Below.{within, countBelow};
+ghost use Rattle.counts.specs.Below.{countBelow};
 ghost use Rattle.ramp.specs.Number.{finite, sixteen32};
 ghost use Rattle.timeline.specs.Command.{commandOf, claimOf, takesVoice, gainOk};
 ghost use Rattle.timeline.specs.Record.{handleWord, handleOf, row, rowOf, readable, readOf, recordOf, readingOf, holdsRow, sooner};
@@ -510,11 +510,14 @@ pub fn holds(store: &[u64], n: usize, h: Handle) -> bool
 fn sooner(x: Row, y: Row) -> bool
     ensures { λ r. ⌜ r ≡ sooner x y ⌝ }
 {
-    (x.at < y.at) | ((x.at == y.at) & (x.number < y.number))
+    if x.at < y.at {
+        return true;
+    }
+    (x.at == y.at) & (x.number < y.number)
 }
 
 /// Record j executes strictly before the one below it.
-fn ordered_at(store: &[u64], j: usize) -> bool
+pub fn ordered_at(store: &[u64], j: usize) -> bool
     requires { ⌜ j * 5 + 5 ≤ length (now store) ⌝ }
     ensures { λ r. ⌜ r ≡ orderedAt (now (store .entry)) j ⌝ }
 {
@@ -525,7 +528,7 @@ fn ordered_at(store: &[u64], j: usize) -> bool
 }
 
 /// The number of record j is above that of the one before it.
-fn rising_at(capture: &[u64], j: usize) -> bool
+pub fn rising_at(capture: &[u64], j: usize) -> bool
     requires { ⌜ j * 5 + 5 ≤ length (now capture) ⌝ }
     ensures { λ r. ⌜ r ≡ risingAt (now (capture .entry)) j ⌝ }
 {
@@ -537,31 +540,6 @@ fn rising_at(capture: &[u64], j: usize) -> bool
     x.number < y.number
 }
 
-/// Record j stands in the order of its store: that of a queue, or the rising one of a capture.
-pub fn in_order(store: &[u64], j: usize, rising: bool) -> bool
-    requires { ⌜ j * 5 + 5 ≤ length (now store) ⌝ }
-    ensures { λ r. ⌜ r ≡ cond rising (risingAt (now (store .entry)) j) (orderedAt (now (store .entry)) j) ⌝ }
-{
-    if rising {
-        return rising_at(store, j);
-    }
-    ordered_at(store, j)
-}
-
-/// A submission number is from 1 to the last given.
-pub fn number_ok(number: u64, last: u64) -> bool
-    ensures { λ r. ⌜ r ≡ within 1 last number ⌝ }
-{
-    (1 <= number) & (number <= last)
-}
-
-/// A command of the first seven kinds has no gain and holds no clip.
-pub fn is_plain(kind: u64) -> bool
-    ensures { λ r. ⌜ r ≡ within 1 7 kind ⌝ }
-{
-    (1 <= kind) & (kind <= 7)
-}
-
 /// A Swap and a Stinger hold a clip.
 pub fn holds_clip(kind: u64) -> bool
     ensures { λ r. ⌜ r ≡ eqb kind 9 || eqb kind 10 ⌝ }
@@ -569,15 +547,21 @@ pub fn holds_clip(kind: u64) -> bool
     (kind == 9) | (kind == 10)
 }
 
+/// A record is readable, and its gain, if it has one, as refusal 14 allows.
+fn reads(x: Row) -> bool
+    ensures { λ r. ⌜ r ≡ readable x && gainOk (readOf x) ⌝ }
+{
+    let kind = x.kind;
+    match kind {
+        8 => (x.first < 0x1_0000_0000) & finite_word(x.first),
+        10 => { if readable(x) { row_gain_ok(x) } else { false } }
+        _ => (1 <= kind) & (kind <= 10),
+    }
+}
+
 /// A queued or captured command is readable, its gain as refusal 14 allows, its number from 1 to the last given.
 pub fn entry_ok(x: Row, last: u64) -> bool
     ensures { λ r. ⌜ r ≡ entryOk last x ⌝ }
 {
-    if !readable(x) {
-        return false;
-    }
-    if !row_gain_ok(x) {
-        return false;
-    }
-    number_ok(x.number, last)
+    reads(x) & (1 <= x.number) & (x.number <= last)
 }

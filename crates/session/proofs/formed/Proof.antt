@@ -6,11 +6,13 @@ use Prim.Native.Nat.{_*_, _≤_}
 use native.Mathlib.Omega.{arith}
 use lib.ListN.{length, length-map}
 use Rattle.counts.specs.declared.Claim.{Claim}
+use Rattle.counts.proofs.Truth.{and-true}
 use Rattle.counts.proofs.Below.{all-true}
+use Rattle.timeline.specs.Queue.{orderedAt, risingAt}
 use Rattle.session.specs.declared.Session.{Session}
 use Rattle.session.specs.Session.{capturedNow}
 use Rattle.session.specs.WellFormed.{numbersOk, held, everyVoice, songOk, masterOk, voiceOk, tailOk, countsOk}
-use Rattle.session.proofs.Walk.{clip-read, walked-empty}
+use Rattle.session.proofs.Walk.{clip-read, asked-none, stingers-fit}
 use Rattle.session.proofs.Checks.{Numbers, Checks, queueFits, captureFits, numbers-has, rooms, queue-walk, capture-walk, passes, decides, fails}
 use borrow.Author.Needs.{needs}
 use Rattle.session.proofs.formed.Statement.{statement}
@@ -71,15 +73,15 @@ ranged c = numbers-has _ (passes (numbers-is (c .before)) (c .if1 .left))
 stored : (c : tie.Else2) → let a = c .before .before .before .before .before .before .before .args in (a .queued * 5 ≤ length (a .queue .now)) × (capturedNow (a .desk) * 5 ≤ length (a .capture .now))
 stored c = rooms _ _ _ (passes (numbers-is (c .before .before .before)) (c .before .before .if1 .left)) (passes (c .before .stores-ok .ensures) (c .if2 .left))
 
-queue-is : (c : tie.After-rows-ok) → let z = from (c .before .before) in c .rows-ok .result ≡ queueFits (whole z) (z .args .queue .now)
+queue-is : (c : tie.After-queued-ok) → let z = from (c .before .before) in c .queued-ok .result ≡ queueFits (whole z) (z .args .queue .now)
 queue-is c =
     let z = from (c .before .before) in
-    c .rows-ok .ensures ∙ queue-walk (whole z) (z .args .queue .now) (ranged (past1 (c .before .before)) .voices)
+    c .queued-ok .ensures ∙ queue-walk (whole z) (z .args .queue .now) (ranged (past1 (c .before .before)) .voices)
 
-capture-is : (c : tie.After-rows-ok2) → let z = from (c .before .before .before) in c .rows-ok2 .result ≡ captureFits (whole z) (z .args .capture .now)
+capture-is : (c : tie.After-captured-ok) → let z = from (c .before .before .before) in c .captured-ok .result ≡ captureFits (whole z) (z .args .capture .now)
 capture-is c =
     let z = from (c .before .before .before) in
-    (rw (past1 (c .before .before .before) .before .before .captured-now .ensures) at (c .rows-ok2 .ensures)) ∙ capture-walk (whole z) (z .args .capture .now)
+    (rw (past1 (c .before .before .before) .before .before .captured-now .ensures) at (c .captured-ok .ensures)) ∙ capture-walk (whole z) (z .args .capture .now)
 
 -- ---- what holds past the last three, made or with nothing to walk
 
@@ -87,15 +89,15 @@ queue-has : (c : tie.Joined7) → let z = from (c .before) in queueFits (whole z
 queue-has c =
     let s = whole (from (c .before)) in
     let q = from (c .before) .args .queue .now in
-    ⊎-elim (λ w. passes (queue-is (record { before = record { before = c .before; if7 = w .0 }; rows-ok = w .1 })) (w .2 .left))
-    (λ w. sym (queue-walk s q (ranged (past1 (c .before)) .voices)) ∙ walked-empty (s .bank) (s .settings .rate) (s .desk .number) false q (s .queued) _ (w .left)) (c .if7 .came)
+    ⊎-elim (λ w. passes (queue-is (record { before = record { before = c .before; if7 = w .0 }; queued-ok = w .1 })) (w .2 .left))
+    (λ w. sym (queue-walk s q (ranged (past1 (c .before)) .voices)) ∙ and-true (asked-none (s .bank) (s .settings .rate) (s .desk .number) (orderedAt q) q (s .queued) (w .left)) (stingers-fit q (s .queued) _ (w .left))) (c .if7 .came)
 
 capture-has : (c : tie.Joined9) → let z = from (c .before .before) in captureFits (whole z) (z .args .capture .now) ≡ true
 capture-has c =
     let s = whole (from (c .before .before)) in
     let d = from (c .before .before) .args .capture .now in
-    ⊎-elim (λ w. passes (capture-is (record { before = record { before = c .before; if9 = w .0 }; rows-ok2 = w .1 })) (w .2 .left))
-    (λ w. sym (capture-walk s d) ∙ walked-empty (s .bank) (s .settings .rate) (s .desk .number) true d (capturedNow (s .desk)) _ (rw (past1 (c .before .before) .before .before .captured-now .ensures) at (w .left)))
+    ⊎-elim (λ w. passes (capture-is (record { before = record { before = c .before; if9 = w .0 }; captured-ok = w .1 })) (w .2 .left))
+    (λ w. sym (capture-walk s d) ∙ asked-none (s .bank) (s .settings .rate) (s .desk .number) (risingAt d) d (capturedNow (s .desk)) (rw (past1 (c .before .before) .before .before .captured-now .ensures) at (w .left)))
     (c .if9 .came)
 
 voices-has : (c : tie.Joined11) → let s = whole (from (c .before .before .before)) in everyVoice s (voiceOk s) ≡ true
@@ -169,17 +171,17 @@ song-ok-requires c κs = search needs
 returns-6 : tie.Need-returns-6
 returns-6 c = fails _ _ _ (song-is (c .before)) (c .if6 .taken) (λ k. k .song)
 
-sub-rows-ok : tie.Need-sub-rows-ok
-sub-rows-ok c = let few = ranged (past1 (c .before)) .voices in search needs
+sub-queued-ok : tie.Need-sub-queued-ok
+sub-queued-ok c = let few = ranged (past1 (c .before)) .voices in search needs
 
-rows-ok-requires : tie.Need-rows-ok-requires
-rows-ok-requires c κs = stored (past2 (c .before)) .0
+queued-ok-requires : tie.Need-queued-ok-requires
+queued-ok-requires c κs = stored (past2 (c .before)) .0
 
 returns-7 : tie.Need-returns-7
 returns-7 c = fails _ _ _ (queue-is (c .before)) (c .if8 .taken) (λ k. k .queue)
 
-rows-ok-requires-2 : tie.Need-rows-ok-requires-2
-rows-ok-requires-2 c κs = rw (past1 (c .before .before) .before .before .captured-now .ensures) (stored (past2 (c .before .before)) .1)
+captured-ok-requires : tie.Need-captured-ok-requires
+captured-ok-requires c κs = rw (past1 (c .before .before) .before .before .captured-now .ensures) (stored (past2 (c .before .before)) .1)
 
 returns-8 : tie.Need-returns-8
 returns-8 c = fails _ _ _ (capture-is (c .before)) (c .if10 .taken) (λ k. k .capture)
@@ -238,10 +240,10 @@ formed-spec =
     element-copy-out-song
     song-ok-requires
     returns-6
-    sub-rows-ok
-    rows-ok-requires
+    sub-queued-ok
+    queued-ok-requires
     returns-7
-    rows-ok-requires-2
+    captured-ok-requires
     returns-8
     voices-ok-requires
     returns-9
