@@ -5,7 +5,7 @@ ghost use Prim.Native.Nat.{_+_, _-_, _*_, _≤_, _<_, _^_};
 ghost use lib.Dec.{eqb};
 ghost use lib.Ieee.{binary32, toBits, ofBits, le};
 ghost use lib.ListN.{length};
-ghost use Rattle.counts.specs.Below.{countBelow};
+ghost use Rattle.counts.specs.Below.{within, countBelow};
 ghost use Rattle.ramp.specs.Number.{finite, sixteen32};
 ghost use Rattle.timeline.specs.Command.{commandOf, claimOf, takesVoice, gainOk};
 ghost use Rattle.timeline.specs.Record.{handleWord, handleOf, row, rowOf, readable, readOf, recordOf, readingOf, holdsRow, sooner};
@@ -540,6 +540,13 @@ pub fn rising_at(capture: &[u64], j: usize) -> bool
     x.number < y.number
 }
 
+/// A submission number is from 1 to the last given.
+fn number_ok(number: u64, last: u64) -> bool
+    ensures { λ r. ⌜ r ≡ within 1 last number ⌝ }
+{
+    (1 <= number) & (number <= last)
+}
+
 /// A Swap and a Stinger hold a clip.
 pub fn holds_clip(kind: u64) -> bool
     ensures { λ r. ⌜ r ≡ eqb kind 9 || eqb kind 10 ⌝ }
@@ -563,5 +570,8 @@ fn reads(x: Row) -> bool
 pub fn entry_ok(x: Row, last: u64) -> bool
     ensures { λ r. ⌜ r ≡ entryOk last x ⌝ }
 {
-    reads(x) & (1 <= x.number) & (x.number <= last)
+    if !number_ok(x.number, last) {
+        return false;
+    }
+    reads(x)
 }
