@@ -7,8 +7,9 @@
 //! [`reached`] counts what they reach, and [`list`] writes the fixed list of the Rust's answers. [`faults`]
 //! are planted into a copy of the Rust to show that the comparison sees them.
 //!
-//! - `cargo test`: document 01's numbers on the Rust, the differences on both, spoiled sessions through the
-//!   static library, 2,000 random sessions on both, the fixed list, and the planted faults.
+//! - `cargo test`: document 01's numbers on the Rust, the differences on both, the declick at every rate on
+//!   both, spoiled sessions through the static library, 2,000 random sessions on both, the fixed list, and
+//!   the planted faults.
 //! - `cargo run --release --bin sessions -- 20000 [first seed]`: as many sessions as are wanted.
 //! - `cargo run --release --bin answers`: writes the fixed list.
 //! - `cargo run --release --bin speed`: how fast both are; `compare/instructions` counts instructions instead.

@@ -7,6 +7,7 @@ use std::panic::{AssertUnwindSafe, catch_unwind};
 
 use common::{RATE, heard, left, now, numbered, started, steady, submit};
 use compare::ours::Ours;
+use compare::runtime::ramp::Tween;
 use compare::script::{Answer, Call, NOW, POOL, SONG, STINGER, at_frame, kind, plain};
 use compare::session::{
     At, PerformanceError, PerformanceSnapshot, Session, Song, Stinger, Submission,
@@ -391,4 +392,12 @@ fn a_replay_weighs_the_room_alone() {
     };
     assert_eq!(ours.play(&Call::Replay), Answer::Replayed(skipped));
     assert_eq!(ours.session.queued, 16);
+}
+
+/// Only the Rust's side is shown: a session of ours has no such rate.
+#[test]
+fn a_tween_in_milliseconds_rounds_a_float() {
+    let frames = |rate| format!("{:?}", Tween::ms(2.0, rate));
+    assert_eq!(frames(10_773_748), format!("{:?}", Tween::frames(21_547)));
+    assert_eq!(frames(10_773_749), format!("{:?}", Tween::frames(21_548)));
 }

@@ -8,7 +8,7 @@ ghost use Rattle.control.specs.Snapshot.{snapped, snapshotOf, weighApply
 ghost use Rattle.control.specs.Metrics.{metered, metricsOf};
 ghost use Rattle.control.specs.declared.StopAnswered.{StopAnswered};
 use counts::SongFrame;
-use ramp::Ramp;
+use ramp::Tween;
 use session::Answer;
 use session::Answered;
 use session::Refusal;
@@ -219,8 +219,8 @@ fn stage_by(extent: SongFrame, x: PerformanceSnapshot, mut g: Stage) -> Stage
     playhead.transport = transport;
     g.playhead = playhead;
     let mut sound = g.sound;
-    let master = Ramp::new(ramp::not_below(x.gain));
-    sound.master = master;
+    let master = sound.master;
+    sound.master = master.set(ramp::not_below(x.gain), Tween::IMMEDIATE);
     g.sound = sound;
     g
 }

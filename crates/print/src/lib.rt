@@ -27,14 +27,18 @@ pub fn bits(x: f32) -> u64 {
     f32::to_bits(x) as u64
 }
 
-/// The whole part of a number; 0 for one below 0 or from 2^64 on.
+/// The whole part of a number's magnitude, read off its bits; 0 from 2^29 on.
 pub fn whole(x: f32) -> u64 {
-    if x > -1.0 {
-        if x < 18446744073709551616.0 {
-            return std::num::truncating_f32_to_u64(x);
-        }
+    let magnitude = bits(x) % 2147483648;
+    let exponent = magnitude / 8388608;
+    if exponent < 127 {
+        return 0;
     }
-    0
+    if exponent > 155 {
+        return 0;
+    }
+    let digits = 8388608 + magnitude % 8388608;
+    (digits * 32) >> (155 - exponent)
 }
 
 /// A sample of magnitude at most 16, in full to the 2^24th; anything else as a word.
@@ -43,13 +47,10 @@ pub fn sample(x: f32) {
         text(b"loud");
         return;
     }
-    let parts = x * 16777216.0;
     if x < 0.0 {
         text(b"-");
-        decimal(whole(0.0 - parts));
-        return;
     }
-    decimal(whole(parts));
+    decimal(whole(x * 16777216.0));
 }
 
 /// So many 2^24ths, in full.

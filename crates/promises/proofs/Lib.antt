@@ -2,6 +2,7 @@ pub mod Numbers
 mod Leaves
 pub mod Tail
 pub mod Kept
+pub mod Declick
 pub mod Never
 pub mod Exchanged
 mod Fine

@@ -4,7 +4,7 @@ use lib.Ieee.{add, sub, mul, div, ofInt, le, lt, toBits, ofBits}
 use Rattle.laws.specs.Block.{run, block}
 use Rattle.counts.specs.Below.{allBelow, countBelow}
 use Rattle.ramp.specs.Number.{finite}
-use Rattle.ramp.specs.Ramp.{roundAway, msTween}
+use Rattle.ramp.specs.Ramp.{msTween}
 use Rattle.timeline.specs.Record.{readable, readOf, sooner}
 use Rattle.timeline.specs.Store.{rowAt, putRow, inserted}
 use Rattle.timeline.specs.Queue.{orderedAt, entryOk, queueOk, captureOk}
@@ -31,7 +31,7 @@ use Rattle.promises.specs.Numbers.{Numbers}
 
 -- the six numbers of the rules' list that are marked as proved
 pub numbers : Numbers
-unfolding add sub mul div ofInt le lt toBits ofBits run block allBelow countBelow finite roundAway msTween readable readOf sooner rowAt putRow inserted orderedAt entryOk queueOk captureOk wrapOf cursorOn advanceOf stepOf distanceTo songDeadlineOf sampleOk samplesOk usedAt live standsFor claimOk loadedIn emptyBank pasted viewOf clipOk slotOk bankOk sampleAt noVoices mixOf mixIn movedOf playheadBy playedOf withTail tailOn renderedOf soundBy countersBy frameOf executeOf first unless settingsOk numbersOk storesOk recordsOk handlesOk songOk stingersOk headsOk masterOk rampsOk countsOk wellFormed weighBlock ranOf blockOf weighOpen openOf weighCommand weighSubmit taken submitOf
+unfolding add sub mul div ofInt le lt toBits ofBits run block allBelow countBelow finite msTween readable readOf sooner rowAt putRow inserted orderedAt entryOk queueOk captureOk wrapOf cursorOn advanceOf stepOf distanceTo songDeadlineOf sampleOk samplesOk usedAt live standsFor claimOk loadedIn emptyBank pasted viewOf clipOk slotOk bankOk sampleAt noVoices mixOf mixIn movedOf playheadBy playedOf withTail tailOn renderedOf soundBy countersBy frameOf executeOf first unless settingsOk numbersOk storesOk recordsOk handlesOk songOk stingersOk headsOk masterOk rampsOk countsOk wellFormed weighBlock ranOf blockOf weighOpen openOf weighCommand weighSubmit taken submitOf
 numbers =
     record {
       declick = (refl, refl, refl);

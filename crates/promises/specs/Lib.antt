@@ -1,5 +1,6 @@
 pub mod Calls
 pub mod Numbers
+pub mod Declick
 pub mod Tail
 pub mod Kept
 pub mod Exchanged

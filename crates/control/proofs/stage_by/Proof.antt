@@ -9,11 +9,11 @@ transport-by-requires c κs = search needs
 not-below-requires : tie.Need-not-below-requires
 not-below-requires c κs = search needs
 
-new-requires : tie.Need-new-requires
-new-requires c κs = search needs
+set-requires : tie.Need-set-requires
+set-requires c κs = search needs
 
 returns : tie.Need-returns
-returns c = simp (c .new .ensures, c .before .not-below .ensures, c .before .before .before .transport-by .ensures)
+returns c = simp (c .set .ensures, c .before .not-below .ensures, c .before .before .before .before .transport-by .ensures)
 
 pub stage-by-spec : {M : Type 1} → statement M
-stage-by-spec = tie.close (tie.spec transport-by-requires not-below-requires new-requires returns)
+stage-by-spec = tie.close (tie.spec transport-by-requires not-below-requires set-requires returns)

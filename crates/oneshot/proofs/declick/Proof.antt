@@ -1,5 +1,4 @@
 -- `oneshot::declick` meets its contract. Assumes nothing.
-use lib.Ieee.{ofBits}
 use borrow.Author.Needs.{needs}
 use Rattle.oneshot.proofs.declick.Statement.{statement}
 use Rattle.oneshot.proofs.declick.Tie as tie
@@ -8,7 +7,6 @@ ms-requires : tie.Need-ms-requires
 ms-requires c κs = search needs
 
 returns : tie.Need-returns
-unfolding ofBits
 returns c = c .ms .ensures
 
 pub declick-spec : {M : Type 1} → statement M
