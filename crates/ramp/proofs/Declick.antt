@@ -2,18 +2,20 @@
 -- 500n - 250 to 500n + 249: so it is enough that tono's is n at both ends, for each n, and that is computed. Assumes nothing.
 use mathlib.Core.Path.{_≡_, refl, sym, ap, _∙_, subst}
 use mathlib.Core.Bool.{Bool, true, false, _&&_}
-use mathlib.Core.Logic.{_⊎_, inl, inr}
-use Prim.Native.Nat.{ℕ, zero, suc, _+_, _-_, _*_, _/_, _^_, _≤_, _<_, min}
-use native.Mathlib.Nat.{le-antisymm, le-trans, le-of-eq, not-suc-le-zero, eq-or-lt-of-le, le-of-suc-le-suc, mul-comm}
+use Prim.Native.Nat.{ℕ, _+_, _-_, _*_, _/_, _^_, _≤_, _<_, min}
+use native.Mathlib.Nat.{le-antisymm, le-trans, le-of-eq, mul-comm}
 use native.Mathlib.Omega.{arith}
 use lib.IntN.{pos, negsuc}
-use lib.Dec.{T, eqb, eqb→eq, lit<}
+use borrow.Author.Tests.{eqb-true}
+use lib.Dec.{T, eqb, lit<}
 use lib.Ieee.{Float, nan, inf, fin, binary32, mul, div, ofInt, le}
-use lib.Ieee.Fits.{and-l, and-r}
 use lib.Ieee.Back.{round-whole}
 use lib.Ieee.Nearest.{div-mono}
 use lib.Ieee.Order.{round-mono}
 use lib.Ieee.Positive.{num, den, positive, den-pos, le→cross, positive-of-value, between, mul-mono}
+use Rattle.counts.specs.Below.{allBelow}
+use Rattle.counts.proofs.Truth.{and-l, and-r}
+use Rattle.counts.proofs.Below.{all-at}
 use Rattle.ramp.specs.Number.{two32}
 use Rattle.ramp.specs.Ramp.{msTween, declickOf, tweenOf}
 use Rattle.ramp.specs.Tono.{roundAway, tonoMs}
@@ -101,34 +103,19 @@ atLow n = eqb (tonoMs two32 (500 * n - 250)) n
 abbrev atHigh : ℕ → Bool
 atHigh n = eqb (tonoMs two32 (500 * n + 249)) n
 
-abbrev atEnds : ℕ → Bool
-atEnds n = atLow n && atHigh n
-
-every : ℕ → Bool
-every zero = true
-every (suc k) = atEnds (16 + k) && every k
-
-computed : T (every 369)
-unfolding tonoMs roundAway mul div ofInt every
-computed = tt
-
-at-ends : (k i : ℕ) → T (every k) → i < k → T (atEnds (16 + i))
-unfolding every
-at-ends zero i e l = absurd (not-suc-le-zero l)
-at-ends (suc k) i e l = go (eq-or-lt-of-le (le-of-suc-le-suc l)) (λ q. at-ends k i (and-r (atEnds (16 + k)) (every k) e) q)
-  where
-    go : (i ≡ k) ⊎ (i < k) → (i < k → T (atEnds (16 + i))) → T (atEnds (16 + i))
-    go (inl p) h = subst (λ (n : ℕ). T (atEnds (16 + n))) (sym p) (and-l (atEnds (16 + k)) (every k) e)
-    go (inr q) h = h q
+-- for each n from 16 to 384
+computed : allBelow 369 (λ i. atLow (16 + i) && atHigh (16 + i)) ≡ true
+unfolding tonoMs roundAway mul div ofInt allBelow
+computed = refl
 
 -- between the ends
 between-ends : (n r : ℕ) → 16 ≤ n → n ≤ 384 → 500 * n ≤ r + 250 → r ≤ 500 * n + 249 → tonoMs two32 r ≡ n
 between-ends n r p q l h =
     let k : ℕ = n - 16 in
     let s : 16 + k ≡ n = omega arith in
-    let e : T (atEnds n) = subst (λ (m : ℕ). T (atEnds m)) s (at-ends 369 k computed (omega arith)) in
-    let a : tonoMs two32 (500 * n - 250) ≡ n = eqb→eq _ _ (and-l (atLow n) (atHigh n) e) in
-    let b : tonoMs two32 (500 * n + 249) ≡ n = eqb→eq _ _ (and-r (atLow n) (atHigh n) e) in
+    let e : atLow n && atHigh n ≡ true = subst (λ (m : ℕ). atLow m && atHigh m ≡ true) s (all-at (λ i. atLow (16 + i) && atHigh (16 + i)) 369 k computed (omega arith)) in
+    let a : tonoMs two32 (500 * n - 250) ≡ n = eqb-true _ _ (and-l (atLow n) (atHigh n) e) in
+    let b : tonoMs two32 (500 * n + 249) ≡ n = eqb-true _ _ (and-r (atLow n) (atHigh n) e) in
     le-antisymm
     (le-trans (tono-mono r (500 * n + 249) (omega arith) h (omega arith)) (le-of-eq b))
     (le-trans (le-of-eq (sym a)) (tono-mono (500 * n - 250) r (omega arith) (omega arith) (omega arith)))
