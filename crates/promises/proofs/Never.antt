@@ -60,7 +60,7 @@ ill = numbered low
 
 command-other : (w : Scales) (h : Stands) (x : Command) → ill (weighCommand w h x) ≡ false
 unfolding weighCommand
-command-other w h x = other low _ _ _ refl (other low _ _ _ refl (other low _ _ _ refl (other low _ _ _ refl (other low _ _ _ refl (other low _ _ _ refl (other low _ _ _ refl (other low _ _ _ refl (refl))))))))
+command-other w h x = other low _ _ _ refl (other low _ _ _ refl (other low _ _ _ refl (other low _ _ _ refl (other low _ _ _ refl (other low _ _ _ refl (other low _ _ _ refl (other low _ _ _ refl (other low _ _ _ refl (refl)))))))))
 
 module _ (s : Session) (q c : List ℕ) (formed : wellFormed s q c ≡ true) where
   only-other : ill (weighOnly s q c) ≡ false

@@ -1,11 +1,9 @@
 -- A stale handle is refused for good, and no frame reads it. Assumes nothing.
-use mathlib.Core.Path.{_≡_, refl, sym, ap, _∙_, subst}
-use mathlib.Core.Logic.{_⊎_, inl, inr}
+use mathlib.Core.Path.{_≡_, refl, sym, ap, subst}
 use mathlib.Core.Bool.{true, false, not}
 use mathlib.Core.List.{List}
 use Prim.Native.Nat.{ℕ, zero, suc, _/_, _<_}
 use native.Mathlib.Omega.{arith}
-use lib.Dec.{eqb}
 use lib.ListN.{length}
 use Rattle.laws.specs.Block.{stand, block as blockFrom}
 use Rattle.laws.specs.Queue.{Each}
@@ -13,13 +11,13 @@ use Rattle.laws.proofs.Lists.{each-map}
 use Rattle.counts.specs.declared.Handle.{Handle}
 use Rattle.counts.specs.declared.Claim.{Claim}
 use Rattle.counts.specs.Handles.{claims}
-use Rattle.counts.proofs.Truth.{two-ways, never, not-false}
+use Rattle.counts.proofs.Truth.{never}
 use Rattle.timeline.specs.declared.Command.{Command}
 use Rattle.timeline.specs.declared.QueueRecord.{QueueRecord}
 use Rattle.timeline.specs.declared.Row.{Row}
 use Rattle.timeline.specs.declared.Submission.{Submission}
-use Rattle.timeline.specs.Command.{commandOf, claimOf, gainOk}
-use Rattle.timeline.specs.Record.{readable, readOf}
+use Rattle.timeline.specs.Command.{commandOf, claimOf, gainOk, isSenseless}
+use Rattle.timeline.specs.Record.{readOf}
 use Rattle.timeline.specs.Store.{rowAt}
 use Rattle.timeline.specs.Queue.{queue}
 use Rattle.timeline.proofs.Queue.{queue-first}
@@ -38,10 +36,8 @@ use Rattle.session.specs.declared.Answered.{Answered}
 use Rattle.session.specs.declared.Refusal.{Refusal}
 use Rattle.session.specs.declared.Weighed.{Weighed}
 use Rattle.session.specs.Answer.{says}
-use Rattle.session.specs.Refusal.{numberOf}
-use Rattle.session.specs.Session.{turnedAway}
 use Rattle.session.specs.WellFormed.{weighOnly}
-use Rattle.session.proofs.Refuse.{stop, skip, unless-fine, unless-refused, only-fine}
+use Rattle.session.proofs.Refuse.{stop, skip, unless-fine, only-fine}
 use Rattle.block.specs.Block.{ranOf}
 use Rattle.block.proofs.Pools.{SameClaim, SameTail, views-agree-on}
 use Rattle.clips.specs.Retire.{weighRetire, retireOf}
@@ -53,12 +49,13 @@ use Rattle.submission.specs.Answer.{saysSubmit}
 use Rattle.submission.specs.Weigh.{weighCommand}
 use Rattle.submission.specs.Submit.{weighSubmit}
 use Rattle.submission.specs.Order.{waiting}
-use Rattle.submission.specs.Replay.{Replaying, weighReplayed, skippedBy, replayRow, replayed, replayOf}
+use Rattle.submission.specs.Replay.{Replaying, weighReplayed, replayed, replayOf}
 use Rattle.submission.proofs.Left.{submit-refused}
 use Rattle.promises.specs.Calls.{State, Call, retire, submit, replay, state, code, refusal, after, afterAll}
 use Rattle.promises.specs.Kept.{Good}
 use Rattle.promises.specs.Retire.{Live, Stale}
 use Rattle.promises.specs.Stale.{AllGiven, WasGiven, skipped, StaleForGood}
+use Rattle.promises.proofs.Skips.{Otherwise, by, otherwise-after, row-skipped}
 use Rattle.promises.proofs.Leaves.{replayed-leaves}
 use Rattle.promises.proofs.Fine.{zero-fine}
 use Rattle.promises.proofs.Banked.{spent-stays, kept-by-all}
@@ -88,32 +85,35 @@ stands-stale b h Claim.Nothing e c = absurd (never (sym c))
 stands-stale b h (Claim.Song k) e c = rw (← same-is h k c, e)
 stands-stale b h (Claim.Stinger k) e c = rw (← same-is h k c, e)
 
+-- a loop names no clip
+named-sensible : (h : Handle) (y : Command) → claims h (claimOf y) ≡ true → isSenseless y ≡ false
+named-sensible h Command.Play c = refl
+named-sensible h Command.Pause c = refl
+named-sensible h Command.Stop c = refl
+named-sensible h (Command.Seek f) c = refl
+named-sensible h (Command.Transition f) c = refl
+named-sensible h (Command.Loop s e) c = absurd (never (sym c))
+named-sensible h Command.ClearLoop c = refl
+named-sensible h (Command.Gain g) c = refl
+named-sensible h (Command.Swap k) c = refl
+named-sensible h (Command.Stinger k g) c = refl
+
 submitting : (h : Handle) (x : State) (y : Submission) (at : At) → Good x → Stale h x → claims h (claimOf (commandOf y)) ≡ true → gainOk (commandOf y) ≡ true
     → refusal (submit y at) x ≡ 11
 unfolding weighSubmit weighCommand
 submitting h x y at g e c gain =
     ap (λ (z : SubmitAnswered × List ℕ × List ℕ). code (saysSubmit (z .0 .answer)))
     (submit-refused (x .session) (x .queue) (x .capture) at Refusal.Stale y
-    (sym (skip _ _ _ _ (ap not (g .formed)) (skip _ _ _ _ (ap not gain) (stop _ _ _ (stands-stale (x .session .bank) h (claimOf (commandOf y)) e c))))))
+    (sym (skip _ _ _ _ (ap not (g .formed)) (skip _ _ _ _ (ap not gain)
+    (skip _ _ _ _ (named-sensible h (commandOf y) c) (stop _ _ _ (stands-stale (x .session .bank) h (claimOf (commandOf y)) e c)))))))
 
 -- ---- a replayed record that names it
 
--- it is refused with something else than 15
-pub data Otherwise (w : Weighed) : Type 0 where
-  by : (k : Refusal) → w ≡ Weighed.Refused k → eqb (numberOf k) 15 ≡ false → Otherwise w
-
 weighs-otherwise : (s : Session) (q : List ℕ) (r : Row) (h : Handle) → live (s .bank) h ≡ false → claims h (claimOf (readOf r)) ≡ true → Otherwise (weighReplayed s q r)
 unfolding weighReplayed weighCommand
-weighs-otherwise s q r h e c = go (two-ways (readable r)) (two-ways (gainOk (readOf r)))
-  where
-    go : (readable r ≡ true) ⊎ (readable r ≡ false) → (gainOk (readOf r) ≡ true) ⊎ (gainOk (readOf r) ≡ false) → Otherwise (weighReplayed s q r)
-    go (inr a) b = by Refusal.Unreadable (sym (stop _ _ _ (not-false a))) refl
-    go (inl a) (inr b) = by Refusal.BadGain (sym (skip _ _ _ _ (ap not a) (stop _ _ _ (not-false b)))) refl
-    go (inl a) (inl b) = by Refusal.Stale (sym (skip _ _ _ _ (ap not a) (skip _ _ _ _ (ap not b) (stop _ _ _ (stands-stale (s .bank) h (claimOf (readOf r)) e c))))) refl
-
-row-skipped : (z : Replaying) (r : Row) → Otherwise (weighReplayed (z .session) (z .queue) r) → replayRow z r ≡ skipped z
-unfolding replayRow turnedAway
-row-skipped z r (by k w e) = unless-refused (weighReplayed (z .session) (z .queue) r) (skippedBy z) _ k w ∙ rw e
+weighs-otherwise s q r h e c =
+    otherwise-after _ _ _ refl
+    (otherwise-after _ _ _ refl (otherwise-after _ _ _ refl (by Refusal.Stale (sym (stop _ _ _ (stands-stale (s .bank) h (claimOf (readOf r)) e c))) refl)))
 
 through : (x : State) (list : List ℕ) → Good x
     → let z : Replaying = replayed (x .session) (x .queue) list (length list / 5) in after (replay list) x ≡ state (z .session) (z .queue) (x .capture) (x .pool)

@@ -34,6 +34,7 @@ number-some Refusal.NumbersSpent = omega arith
 number-some Refusal.Held = omega arith
 number-some Refusal.ListTooShort = omega arith
 number-some Refusal.Unreadable = omega arith
+number-some Refusal.SenselessLoop = omega arith
 
 -- a test that holds gives its refusal,
 pub stop : (t : Bool) (k : Refusal) (rest : Weighed) → t ≡ true → Weighed.Refused k ≡ first t k rest

@@ -133,7 +133,7 @@ impl Session {
     }
 }
 
-/// Why a call is refused, in the order of the numbers 1 to 21.
+/// Why a call is refused, in the order of the numbers 1 to 22.
 pub enum Refusal {
     NotWellFormed,
     PoolLength,
@@ -156,6 +156,7 @@ pub enum Refusal {
     Held,
     ListTooShort,
     Unreadable,
+    SenselessLoop,
 }
 
 impl Refusal {
@@ -185,6 +186,7 @@ impl Refusal {
             Refusal::Held => 19,
             Refusal::ListTooShort => 20,
             Refusal::Unreadable => 21,
+            Refusal::SenselessLoop => 22,
         }
     }
 }

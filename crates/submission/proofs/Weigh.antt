@@ -1,14 +1,14 @@
 -- What a command that is not refused has: every test of its row of the rules has failed. Assumes nothing.
 use mathlib.Core.Path.{_≡_}
 use mathlib.Core.Logic.{_≢_}
-use mathlib.Core.Bool.{Bool, true}
+use mathlib.Core.Bool.{Bool, true, false}
 use mathlib.Core.List.{List}
 use Prim.Native.Nat.{ℕ, _+_, _-_, _^_, _≤_, _<_}
 use native.Mathlib.Omega.{arith}
 use borrow.Author.Tests.{leb-false, eqb-false, not-false as not-off}
 use Rattle.counts.proofs.Truth.{not-true, not-false, or-false}
 use Rattle.timeline.specs.declared.Command.{Command}
-use Rattle.timeline.specs.Command.{claimOf, takesVoice, gainOk}
+use Rattle.timeline.specs.Command.{claimOf, takesVoice, gainOk, isSenseless}
 use Rattle.timeline.specs.Queue.{stingers}
 use Rattle.bank.specs.Slots.{claimOk}
 use Rattle.session.specs.declared.Session.{Session}
@@ -20,6 +20,7 @@ use Rattle.submission.specs.Weigh.{weighCommand, captureRoom, scalesOf, 
 -- what a command has that a session takes; its capture has room if `spare`
 pub record Fits (s : Session) (q : List ℕ) (spare : Bool) (x : Command) : Type 0 where
   pub gain : gainOk x ≡ true
+  pub sense : isSenseless x ≡ false
   pub claim : held s (claimOf x) ≡ true
   pub depth : s .queued < s .settings .queue
   pub room : spare ≡ true
@@ -32,7 +33,8 @@ module _ (s : Session) (q : List ℕ) (spare : Bool) (x : Command) where
   unfolding weighCommand claimOk
   fine-fits e =
       let a14 = passed _ _ _ e in
-      let a11 = passed _ _ _ (a14 .1) in
+      let a22 = passed _ _ _ (a14 .1) in
+      let a11 = passed _ _ _ (a22 .1) in
       let a12 = passed _ _ _ (a11 .1) in
       let a13 = passed _ _ _ (a12 .1) in
       let a15 = passed _ _ _ (a13 .1) in
@@ -41,6 +43,7 @@ module _ (s : Session) (q : List ℕ) (spare : Bool) (x : Command) where
       let a18 = passed _ _ _ (a17 .1) in
       record {
         gain = not-off (gainOk x) (a14 .0);
+        sense = a22 .0;
         claim = not-false (or-false (or-false (a11 .0) (a12 .0)) (a13 .0));
         depth = leb-false _ _ (a15 .0);
         room = not-off spare (a16 .0);

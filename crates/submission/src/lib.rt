@@ -85,12 +85,15 @@ struct ReplayState {
 
 // ---- weighing a command
 
-/// 14, 11, 12, 13, 15, 16, 17, 18: a command, against what its handle stands for and the scales.
+/// 14, 22, 11, 12, 13, 15, 16, 17, 18: a command, against what its handle stands for and the scales.
 fn weigh_command(w: Scales, stands: Stands, x: Command) -> Weighed
     ensures { λ r. ⌜ r ≡ weighCommand w stands x ⌝ }
 {
     if !x.gain_ok() {
         return Weighed::Refused(Refusal::BadGain);
+    }
+    if x.is_senseless() {
+        return Weighed::Refused(Refusal::SenselessLoop);
     }
     if bank::is_stale(stands) {
         return Weighed::Refused(Refusal::Stale);

@@ -7,7 +7,7 @@ ghost use lib.Ieee.{binary32, toBits, ofBits, le};
 ghost use lib.ListN.{length};
 ghost use Rattle.counts.specs.Below.{within, countBelow};
 ghost use Rattle.ramp.specs.Number.{finite, sixteen32};
-ghost use Rattle.timeline.specs.Command.{commandOf, claimOf, takesVoice, gainOk};
+ghost use Rattle.timeline.specs.Command.{commandOf, claimOf, takesVoice, gainOk, isSenseless};
 ghost use Rattle.timeline.specs.Record.{handleWord, handleOf, row, rowOf, readable, readOf, recordOf, readingOf, holdsRow, sooner};
 ghost use Rattle.timeline.specs.Store.{rowAt, putRow, inserted, copied};
 ghost use Rattle.timeline.specs.Queue.{orderedAt, risingAt, entryOk, stingers, holds, dropTransitions, transitions, isQueued, dropCaptured, wouldGo};
@@ -64,6 +64,24 @@ impl Command {
             Command::Gain(g) => ramp::is_finite(g),
             Command::Swap(_) => true,
             Command::Stinger(_, g) => stinger_gain_ok(g),
+        }
+    }
+
+    /// A loop whose start is not below its end is senseless.
+    pub fn is_senseless(self) -> bool
+        ensures { λ r. ⌜ r ≡ isSenseless self ⌝ }
+    {
+        match self {
+            Command::Play => false,
+            Command::Pause => false,
+            Command::Stop => false,
+            Command::Seek(_) => false,
+            Command::Transition(_) => false,
+            Command::Loop(start, end) => !(start.0 < end.0),
+            Command::ClearLoop => false,
+            Command::Gain(_) => false,
+            Command::Swap(_) => false,
+            Command::Stinger(_, _) => false,
         }
     }
 }
