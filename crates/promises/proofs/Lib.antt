@@ -11,7 +11,10 @@ pub mod Later
 pub mod Refused
 pub mod Retire
 mod Banked
+mod Skips
 pub mod Stale
+mod Taken
+pub mod Senseless
 pub mod Own
 pub mod Room
 pub mod Opens

@@ -7,6 +7,7 @@ pub mod Exchanged
 pub mod Refused
 pub mod Retire
 pub mod Stale
+pub mod Senseless
 pub mod Own
 pub mod Room
 pub mod Later
