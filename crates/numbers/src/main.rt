@@ -1,5 +1,6 @@
-//! Runs document 01's numbers on the compiled code, over real stores, and prints them.
+//! Runs the documents' numbers on the compiled code, over real stores, and prints them.
 mod blocks;
+mod loops;
 mod many;
 mod refusals;
 mod same;
@@ -9,6 +10,7 @@ mod told;
 fn main() {
     blocks::all();
     refusals::all();
+    loops::past_the_length();
     story::replaced();
     many::queue_full();
 }

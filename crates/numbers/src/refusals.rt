@@ -20,7 +20,7 @@ use transport::TransportState;
 const RATE: u32 = 48000;
 
 /// A queue of 2, a capture of 1, a pool of 8 frames.
-const SMALL: Settings = Settings {
+pub const SMALL: Settings = Settings {
     rate: RATE,
     queue: 2,
     capture: 1,
@@ -290,8 +290,12 @@ fn load_slow(
     clips::load(s, queue, capture, pool, &slow, lasts, 44100)
 }
 
+pub fn looped(start: u64, end: u64) -> Submission {
+    Submission::Loop(SongFrame(start), SongFrame(end))
+}
+
 /// '11: stale handle.' '12: song where a stinger is due, or the reverse.' '13: clip rate is not the session's.'
-/// '14: gain not finite; stinger gain above 16.'
+/// '14: gain not finite; stinger gain above 16.' '22, senseless loop.'
 fn handles() {
     let queue = [0; 10];
     let capture = [0; 5];
@@ -314,6 +318,10 @@ fn handles_told(s: Session, queue: [u64; 10], capture: [u64; 5], song: Handle, o
     submit(s, queue, capture, Submission::Swap(other));
     text(b"  a stinger at gain 17: ");
     submit(s, queue, capture, Submission::Stinger(song, 17.0));
+    text(b"  a loop from 5 to 5: ");
+    submit(s, queue, capture, looped(5, 5));
+    text(b"  a loop from 6 to 5: ");
+    submit(s, queue, capture, looped(6, 5));
 }
 
 /// '14: snapshot gain outside 0..2.'
@@ -334,12 +342,17 @@ fn snapshot_gain() {
 }
 
 /// A submission at once that is not told.
-fn queue_one(s: Session, queue: &mut [u64; 10], capture: &mut [u64; 5], x: Submission) -> Session {
+pub fn queue_one(
+    s: Session,
+    queue: &mut [u64; 10],
+    capture: &mut [u64; 5],
+    x: Submission,
+) -> Session {
     let r = submission::submit(s, queue, capture, x, At::Immediate);
     r.session
 }
 
-/// '15: queue full.'
+/// '15: queue full.' 22 comes before it, and is not counted as dropped.
 fn queue_full() {
     let mut queue = [0; 10];
     let mut capture = [0; 5];
@@ -349,6 +362,8 @@ fn queue_full() {
     let full = queue_one(one, &mut queue, &mut capture, Submission::Pause);
     text(b"  a third command in a queue of 2: ");
     submit_full(full, queue, capture);
+    text(b"  a loop from 5 to 5 in its place: ");
+    submit(full, queue, capture, looped(5, 5));
 }
 
 /// A Play that finds the queue of 2 full.
@@ -365,7 +380,7 @@ fn capture_one(s: Session, queue: &mut [u64; 10], capture: &mut [u64; 5]) -> Ses
     queue_one(on.session, queue, capture, Submission::Play)
 }
 
-/// '16: capture on and full.'
+/// '16: capture on and full.' 22 comes before it.
 fn captured() {
     let mut queue = [0; 10];
     let mut capture = [0; 5];
@@ -374,6 +389,8 @@ fn captured() {
     let full = capture_one(s, &mut queue, &mut capture);
     text(b"  a second command in a capture of 1: ");
     submit(full, queue, capture, Submission::Pause);
+    text(b"  a loop from 5 to 5 in its place: ");
+    submit(full, queue, capture, looped(5, 5));
 }
 
 /// A stinger at frame 9.
@@ -429,7 +446,7 @@ fn stingers() {
     submit_seventeen(s, queue, capture, Submission::Stinger(bell, 1.0));
 }
 
-/// '18: submission number 2^64 - 1 already given.'
+/// '18: submission number 2^64 - 1 already given.' 22 comes before it.
 fn numbers() {
     let queue = [0; 10];
     let capture = [0; 5];
@@ -440,6 +457,8 @@ fn numbers() {
     s.desk = desk;
     text(b"  a command when number 2^64 - 1 is given: ");
     submit(s, queue, capture, Submission::Play);
+    text(b"  a loop from 5 to 5 in its place: ");
+    submit(s, queue, capture, looped(5, 5));
 }
 
 /// '19: clip held by song, tail, voice, queue or running capture.'
@@ -520,6 +539,41 @@ fn unreadable() {
     text(b"\n");
 }
 
+fn loop_row(start: u64, end: u64) -> Row {
+    Row {
+        at: 8,
+        number: 1,
+        kind: 6,
+        first: start,
+        second: end,
+    }
+}
+
+/// Four loops, the first and the third senseless.
+fn put_loops(list: &mut [u64; 20]) {
+    timeline::put_row(list, 0, loop_row(5, 5));
+    timeline::put_row(list, 1, loop_row(5, 6));
+    timeline::put_row(list, 2, loop_row(6, 5));
+    timeline::put_row(list, 3, loop_row(5, 7));
+}
+
+/// 22 in a replayed record: otherwise skipped, also where the queue is full.
+fn senseless() {
+    let mut queue = [0; 10];
+    let capture = [0; 5];
+    let mut pool = [0.0; 16];
+    let s = opened(SMALL, &queue, &capture, &mut pool);
+    let mut list = [0; 20];
+    put_loops(&mut list);
+    text(b"  replay of loops 5..5, 5..6, 6..5 and 5..7 into a queue of 2: ");
+    let full = replay(s, &mut queue, &capture, &list);
+    text(b"\n    once more: ");
+    let after = replay(full, &mut queue, &capture, &list);
+    text(b"\n    then metrics: ");
+    metrics(after, &queue, &capture);
+    text(b"\n");
+}
+
 pub fn all() {
     text(b"each refusal number, at a call that meets it\n");
     stores();
@@ -539,4 +593,5 @@ pub fn all() {
     song_held();
     list_short();
     unreadable();
+    senseless();
 }
