@@ -377,10 +377,8 @@ impl Player {
         let end = match self.dice.below(8) {
             0 => clip.extent.min(1 << 31),
             1 => clip.frames,
-            // A loop that does not fit.
-            2 => self
-                .dice
-                .pick(&[start, start.saturating_sub(1), clip.extent.min(1 << 31) + 1]),
+            // A loop that does not fit. A senseless one is refused, and so outside the domain.
+            2 => clip.extent.min(1 << 31) + 1,
             _ => start + self.dice.from(1, span),
         };
         Command {

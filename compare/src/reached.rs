@@ -3,13 +3,13 @@
 use std::fmt;
 use std::ops::AddAssign;
 
-use threshreed::raw::{Session, Voice};
+use threshreed::raw::{Command, Session, Voice};
 
 use crate::ours::Ours;
-use crate::script::{Answer, Call, state};
+use crate::script::{Answer, Call, kind, state};
 
 /// The situations, in the order in which they are counted.
-const NAMES: [&str; 30] = [
+const NAMES: [&str; 31] = [
     "16 voices",
     "two due at a block's end",
     "a swap in a swap",
@@ -27,6 +27,7 @@ const NAMES: [&str; 30] = [
     "a submission refused with 15",
     "a capture that has records",
     "a replay that takes records",
+    "a loop past the song's length",
     "a loop of at most 8 frames that comes round",
     "a song of at most 8 frames",
     "a voice of at most 8 frames",
@@ -43,18 +44,19 @@ const NAMES: [&str; 30] = [
 ];
 
 /// The fixed list must reach the first so many of them.
-const LISTED: usize = 17;
+const LISTED: usize = 18;
 
 /// At most so many frames are few.
 const FEW: u64 = 8;
 
-/// A count for each situation, and of the calls, the frames and the samples that were not silent.
+/// A count for each situation, and of the calls, the frames, the samples that were not silent and the senseless loops.
 #[derive(Clone, Copy, Default)]
 pub struct Reached {
     situations: [u64; NAMES.len()],
     calls: u64,
     frames: u64,
     sounding: u64,
+    senseless: u64,
 }
 
 /// Our session at a moment between two calls.
@@ -136,6 +138,10 @@ impl Moment {
     }
 }
 
+fn is_senseless(range: &Command) -> bool {
+    range.frame >= range.end
+}
+
 impl Reached {
     /// Looks at one call. `retired` holds the starts of the clips retired so far.
     pub fn see(
@@ -163,6 +169,11 @@ impl Reached {
         let full = matches!(answer, Answer::Replayed(report) if report.full > 0);
         let taken = matches!(answer, Answer::Replayed(report) if report.taken > 0);
         let records = matches!(answer, Answer::Records(records) if !records.is_empty());
+        let looped = match call {
+            Call::Submit(command, _) if command.kind == kind::LOOP => Some(command),
+            _ => None,
+        };
+        let length = was.clips[was.song.slot as usize].extent;
         let again = match (call, answer) {
             (Call::Load(_), Answer::Loaded(handle)) => {
                 retired.contains(&is.clips[handle.slot as usize].start)
@@ -189,6 +200,7 @@ impl Reached {
             *answer == Answer::Refused(15),
             records,
             taken,
+            looped.is_some_and(|range| range.end > length),
             undisturbed && before.comes_round(frames),
             nothing_due
                 && was.state == state::PLAYING
@@ -219,10 +231,16 @@ impl Reached {
             *count += u64::from(seen);
         }
         self.calls += 1;
+        self.senseless += u64::from(looped.is_some_and(is_senseless));
         if let Answer::Samples(bits) = answer {
             self.frames += bits.len() as u64 / 2;
             self.sounding += bits.iter().filter(|bits| **bits != 0).count() as u64;
         }
+    }
+
+    /// How many loops were submitted whose start is not below their end: the domain has none.
+    pub fn senseless(&self) -> u64 {
+        self.senseless
     }
 
     /// The situations that were never reached.
@@ -250,6 +268,7 @@ impl AddAssign for Reached {
         self.calls += more.calls;
         self.frames += more.frames;
         self.sounding += more.sounding;
+        self.senseless += more.senseless;
     }
 }
 
@@ -258,6 +277,7 @@ impl fmt::Display for Reached {
         writeln!(f, "{:>10}  calls", self.calls)?;
         writeln!(f, "{:>10}  frames", self.frames)?;
         writeln!(f, "{:>10}  samples that were not silent", self.sounding)?;
+        writeln!(f, "{:>10}  senseless loops", self.senseless)?;
         for (name, count) in NAMES.into_iter().zip(self.situations) {
             writeln!(f, "{count:>10}  {name}")?;
         }

@@ -328,6 +328,35 @@ fn any_gain_is_taken() {
 }
 
 #[test]
+fn a_senseless_loop_is_taken() {
+    for (start, end) in [(5, 5), (6, 5)] {
+        let mut session = Session::open(&steady(0.5, 8));
+        session.start_capture();
+        now(&mut session, [Submission::Loop(start, end)]);
+        let records = session.stop_capture();
+        session.replay(&records);
+        session.block(1);
+        assert_eq!(session.metrics().commands_executed, 2);
+        assert_eq!(session.loop_range(), None);
+
+        let mut ours = ours(&steadily(0.5, 8));
+        let senseless = Command {
+            frame: start,
+            end,
+            ..plain(kind::LOOP)
+        };
+        assert_eq!(refused(&mut ours, senseless), 22);
+        ours.list = vec![0, 1, u64::from(kind::LOOP), start, end];
+        let skipped = Report {
+            taken: 0,
+            full: 0,
+            skipped: 1,
+        };
+        assert_eq!(ours.play(&Call::Replay), Answer::Replayed(skipped));
+    }
+}
+
+#[test]
 fn a_length_below_the_frames_is_taken() {
     let song = Song::new(RATE, &[(0.5, 0.5), (0.25, 0.25)], 1);
     let mut session = started(&song, [Submission::Play]);

@@ -736,7 +736,7 @@ fn any_arguments() {
             seen[host.refusal(name, &x) as usize] = true;
         }
     }
-    for number in [0, 2, 3, 5, 6, 7, 10, 11, 12, 13, 14, 19, 20, 255] {
+    for number in [0, 2, 3, 5, 6, 7, 10, 11, 12, 13, 14, 19, 20, 22, 255] {
         assert!(seen[number], "refusal {number} was never seen");
     }
 }

@@ -11,6 +11,7 @@ fn our_library_and_the_rust_agree() {
     let reached = sessions::run(0, sessions::GATE).unwrap_or_else(|x| panic!("{x}"));
     println!("{reached}");
     assert_eq!(reached.missing(), Vec::<&str>::new(), "never reached");
+    assert_eq!(reached.senseless(), 0);
 }
 
 #[test]
@@ -22,6 +23,7 @@ fn the_fixed_list_is_what_the_writer_writes() {
         Vec::<&str>::new(),
         "never reached"
     );
+    assert_eq!(reached.senseless(), 0);
     assert!(text.len() <= list::MOST_BYTES);
     is_committed(&list::path(), &text);
 }
