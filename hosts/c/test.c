@@ -199,6 +199,13 @@ int main(void)
     snapshot.state = THRESHREED_PAUSED;
     EXPECT(tr_apply_snapshot(&t, snapshot) == 0 && tr_state(&t) == THRESHREED_PAUSED);
 
+    /* A loop is senseless or not whatever the song's length; a snapshot's that does not fit is not set. */
+    EXPECT(tr_submit(&t, tr_loop(5, 5), tr_now()) == THRESHREED_SENSELESS_LOOP);
+    EXPECT(tr_submit(&t, tr_loop(6, 5), tr_now()) == THRESHREED_SENSELESS_LOOP);
+    EXPECT(tr_submit(&t, tr_loop(5, 6), tr_now()) == 0 && tr_block(&t, out, 2) == 0 && tr_loop_range(&t).set == 0);
+    snapshot.looped = (ThreshreedLoop){1, 1, 1};
+    EXPECT(tr_apply_snapshot(&t, snapshot) == 0 && tr_loop_range(&t).set == 0);
+
     /* No capture, and a queue of four. */
     EXPECT(tr_stop_capture(&t, NULL, 0, &copied) == 0 && copied == 0);
     EXPECT(tr_start_capture(&t) == 0 && tr_submit(&t, tr_play(), tr_now()) == THRESHREED_CAPTURE_FULL);
@@ -208,8 +215,9 @@ int main(void)
     }
     EXPECT(tr_transition(&t, 1, tr_now()) == 0 && tr_transition(&t, 0, tr_now()) == 0);
     EXPECT(tr_submit(&t, tr_stop(), tr_now()) == THRESHREED_QUEUE_FULL);
+    EXPECT(tr_submit(&t, tr_loop(5, 5), tr_now()) == THRESHREED_SENSELESS_LOOP);
     EXPECT(tr_replay(&t, NULL, 5, &report) == 0 && report.taken == 0);
-    EXPECT(tr_metrics(&t, &metrics) == 0 && metrics.rendered == 4 && metrics.dropped == 1 && metrics.deepest == 4);
+    EXPECT(tr_metrics(&t, &metrics) == 0 && metrics.rendered == 5 && metrics.dropped == 1 && metrics.deepest == 4);
 
     EXPECT(strcmp(threshreed_refusal(THRESHREED_STALE), "stale handle") == 0);
     EXPECT(strcmp(threshreed_refusal(0), "none") == 0 && strcmp(threshreed_refusal(254), "none") == 0);

@@ -50,6 +50,7 @@ extern "C" {
     X(19, HELD, "clip held by song, tail, voice, queue or running capture") \
     X(20, LIST_TOO_SHORT, "list for captured records too short") \
     X(21, UNREADABLE, "replayed record unreadable (seen only as a skip)") \
+    X(22, SENSELESS_LOOP, "senseless loop: its start is not below its end") \
     X(255, NO_SUCH_CASE, "argument names no case")
 
 /* THRESHREED_NOT_WELL_FORMED to THRESHREED_NO_SUCH_CASE. */
@@ -708,7 +709,8 @@ static inline ThreshreedCommand tr_seek(uint64_t frame)
     return x;
 }
 
-/* Taken if start < end <= the song's length, else nothing. */
+/* Set if its end is not past the length of the song that then plays, else nothing. Refused as senseless (22) if its start
+ * is not below its end. */
 static inline ThreshreedCommand tr_loop(uint64_t start, uint64_t end)
 {
     ThreshreedCommand x = tr_command(THRESHREED_LOOP);

@@ -15,7 +15,23 @@ pub struct ClockFrame(pub u64);
 #[derive(Clone, Copy, Debug, PartialEq, Eq, Hash)]
 pub struct Handle(pub(crate) raw::Handle);
 
-/// A loop from its start up to its end.
+/// A loop from its start up to its end. A submission refuses one that no song could have; one past the length of the
+/// song that plays is taken, since a swap to a longer song may come first.
+///
+/// ```
+/// use threshreed::{At, Command, LoopRange, Refusal, Song, SongFrame, Stores};
+///
+/// let mut stores = Stores::<8, 0, 4>::new();
+/// let mut session = stores.open(48_000, Song::new(&[0.5, -0.5], 48_000))?;
+/// let looped = |start, end| {
+///     let (start, end) = (SongFrame(start), SongFrame(end));
+///     Command::Loop(LoopRange { start, end })
+/// };
+/// let refused = session.submit(looped(5, 5), At::Immediate);
+/// assert_eq!(refused, Err(Refusal::SenselessLoop));
+/// session.submit(looped(5, 6), At::Immediate)?;
+/// # Ok::<(), Refusal>(())
+/// ```
 #[derive(Clone, Copy, Debug, PartialEq, Eq, Hash)]
 pub struct LoopRange {
     pub start: SongFrame,
@@ -31,7 +47,8 @@ pub enum Command {
     Stop,
     /// To a song frame, held to the song's length.
     Seek(SongFrame),
-    /// Taken if start < end <= the song's length, else nothing.
+    /// Set if its end is not past the length of the song that then plays, else nothing. Refused as
+    /// [`SenselessLoop`](crate::Refusal::SenselessLoop) if its start is not below its end.
     Loop(LoopRange),
     ClearLoop,
     /// The master gain, held to 0..2, reached in 256 frames.
@@ -66,6 +83,7 @@ pub struct Snapshot {
     pub position: SongFrame,
     pub state: State,
     pub gain: f32,
+    /// If it does not fit the song that plays, the loop stays as it is.
     pub looped: Option<LoopRange>,
 }
 

@@ -38,13 +38,15 @@ pub enum Refusal {
     Held,
     ListTooShort,
     Unreadable,
+    /// A loop's start is not below its end, in a submission or, seen only as a skip, in a replayed record.
+    SenselessLoop,
     /// Never given here, where an argument can only name a case: it is for hosts that pass numbers.
     NoSuchCase = raw::NO_SUCH_CASE,
 }
 
 impl Refusal {
     /// All of them, in the order of their numbers.
-    pub const ALL: [Refusal; 22] = [
+    pub const ALL: [Refusal; 23] = [
         Refusal::NotWellFormed,
         Refusal::PoolLength,
         Refusal::OddSamples,
@@ -66,6 +68,7 @@ impl Refusal {
         Refusal::Held,
         Refusal::ListTooShort,
         Refusal::Unreadable,
+        Refusal::SenselessLoop,
         Refusal::NoSuchCase,
     ];
 
@@ -110,6 +113,7 @@ impl Refusal {
             Refusal::Held => "clip held by song, tail, voice, queue or running capture",
             Refusal::ListTooShort => "list for captured records too short",
             Refusal::Unreadable => "replayed record unreadable (seen only as a skip)",
+            Refusal::SenselessLoop => "senseless loop: its start is not below its end",
             Refusal::NoSuchCase => "argument names no case",
         }
     }

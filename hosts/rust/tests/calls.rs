@@ -146,12 +146,18 @@ fn a_loop_comes_round_and_a_song_frame_with_it() {
     assert_eq!(heard(&mut session, 3), [1, 2, 3].map(level));
     assert_eq!(session.loop_range(), None);
 
-    // A loop past the song's end is not taken.
-    session
-        .submit(Command::Loop(looped(1, 17)), At::Immediate)
-        .unwrap();
+    // A loop past the song's end is not set, but for one that a swap to a longer song comes before.
+    let past = Command::Loop(looped(1, 17));
+    session.submit(past, At::Immediate).unwrap();
     heard(&mut session, 1);
     assert_eq!(session.loop_range(), None);
+    let longer = session.load_song(Song::new(&numbered(17), RATE)).unwrap();
+    session
+        .submit(Command::Swap(longer), At::Immediate)
+        .unwrap();
+    session.submit(past, At::Immediate).unwrap();
+    heard(&mut session, 1);
+    assert_eq!(session.loop_range(), Some(looped(1, 17)));
 }
 
 #[test]

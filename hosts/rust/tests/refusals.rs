@@ -5,8 +5,8 @@ mod common;
 use common::{ByHand, PAIR, RATE};
 use threshreed::Refusal::*;
 use threshreed::{
-    At, Command, Metrics, Refusal, Report, Session, Snapshot, Song, SongFrame, State, Stinger,
-    Stores, WORDS, raw,
+    At, Command, LoopRange, Metrics, Refusal, Report, Session, Snapshot, Song, SongFrame, State,
+    Stinger, Stores, WORDS, raw,
 };
 
 fn song() -> Song<'static> {
@@ -28,6 +28,11 @@ fn open(stores: &mut Small) -> Session<'_> {
 
 fn now(session: &mut Session, command: Command) -> Result<u64, Refusal> {
     session.submit(command, At::Immediate)
+}
+
+fn looped(start: u64, end: u64) -> Command {
+    let (start, end) = (SongFrame(start), SongFrame(end));
+    Command::Loop(LoopRange { start, end })
 }
 
 #[test]
@@ -108,6 +113,9 @@ fn submissions() {
     for gain in [f32::NAN, f32::INFINITY, f32::NEG_INFINITY] {
         assert_eq!(now(&mut session, Command::Gain(gain)), Err(BadGain));
     }
+    for senseless in [looped(5, 5), looped(6, 5), looped(u64::MAX, 0)] {
+        assert_eq!(now(&mut session, senseless), Err(SenselessLoop));
+    }
     let loud = Command::Stinger(bell, 16.5);
     assert_eq!(now(&mut session, loud), Err(BadGain));
     assert_eq!(now(&mut session, Command::Swap(bell)), Err(WrongKind));
@@ -120,6 +128,7 @@ fn submissions() {
     session.start_capture().unwrap();
     now(&mut session, Command::Play).unwrap();
     assert_eq!(now(&mut session, Command::Play), Err(CaptureFull));
+    assert_eq!(now(&mut session, looped(5, 5)), Err(SenselessLoop));
     session.stop_capture(&mut [0; WORDS]).unwrap();
 
     for _ in 0..16 {
@@ -131,6 +140,7 @@ fn submissions() {
     for _ in 17..20 {
         now(&mut session, Command::Play).unwrap();
     }
+    assert_eq!(now(&mut session, looped(5, 5)), Err(SenselessLoop));
     assert_eq!(session.metrics().unwrap().dropped, 0);
     assert_eq!(now(&mut session, Command::Play), Err(QueueFull));
     assert_eq!(
@@ -187,12 +197,17 @@ fn captures_and_replays() {
     let mut list = [0; WORDS];
     assert_eq!(session.stop_capture(&mut list), Ok(1));
 
-    // The list's kind 11 is none, its slot 31 has no clip.
-    let list = [[0, 1, 11, 0, 0], [0, 2, 9, 31 << 32, 0], list];
+    // The list's kind 11 is none, its slot 31 has no clip, its loop is senseless.
+    let list = [
+        [0, 1, 11, 0, 0],
+        [0, 2, 9, 31 << 32, 0],
+        [0, 3, 6, 5, 5],
+        list,
+    ];
     let expected = Report {
         taken: 1,
         full: 0,
-        skipped: 2,
+        skipped: 3,
     };
     assert_eq!(session.replay(list.as_flattened()), Ok(expected));
 }
@@ -294,6 +309,17 @@ fn a_session_that_is_not_well_formed() {
     for change in changes {
         assert_eq!(ByHand::with(change).frame(), NotWellFormed.number());
     }
+}
+
+/// Well formed does not ask for sense: a senseless loop that lies in the queue is executed, and does nothing.
+#[test]
+fn a_session_with_a_senseless_loop() {
+    let mut opened = ByHand::with(|s| (s.queued, s.number) = (1, 1));
+    opened.queue[..WORDS].copy_from_slice(&[0, 1, 6, 5, 5]);
+    let answered = opened.block(&mut [0.0; 2]);
+    assert_eq!(answered.refusal, 0);
+    assert_eq!(answered.session.counters.executed, 1);
+    assert_eq!(answered.session.looped.set, 0);
 }
 
 /// Nothing of an unused slot is looked at, its kind as little as the rest.
