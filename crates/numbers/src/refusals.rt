@@ -1,4 +1,4 @@
-//! Each refusal number once, at a call: 'Each gives its number alone; all lent stores and the session stay, save 15.'
+//! Each refusal number at a call: 'Each gives its number alone; all lent stores and the session stay, save 15.'
 use bank::Kind;
 use clips::LoadAnswer;
 use clips::LoadAnswered;
@@ -493,22 +493,22 @@ fn stop_short(s: Session, queue: &[u64; 10], capture: &[u64; 5]) {
     crate::told::kept(crate::same::session(s, after) & crate::same::words(&list, &was));
 }
 
-fn row(at: u64, kind: u64) -> Row {
+fn row(at: u64, kind: u64, first: u64, second: u64) -> Row {
     Row {
         at: at,
         number: 1,
         kind: kind,
-        first: 0,
-        second: 0,
+        first: first,
+        second: second,
     }
 }
 
 /// Four records, the second of kind 11.
 fn put_four(list: &mut [u64; 20]) {
-    timeline::put_row(list, 0, row(8, 1));
-    timeline::put_row(list, 1, row(8, 11));
-    timeline::put_row(list, 2, row(4, 2));
-    timeline::put_row(list, 3, row(2, 3));
+    timeline::put_row(list, 0, row(8, 1, 0, 0));
+    timeline::put_row(list, 1, row(8, 11, 0, 0));
+    timeline::put_row(list, 2, row(4, 2, 0, 0));
+    timeline::put_row(list, 3, row(2, 3, 0, 0));
 }
 
 fn replay(s: Session, queue: &mut [u64; 10], capture: &[u64; 5], list: &[u64; 20]) -> Session {
@@ -539,22 +539,12 @@ fn unreadable() {
     text(b"\n");
 }
 
-fn loop_row(start: u64, end: u64) -> Row {
-    Row {
-        at: 8,
-        number: 1,
-        kind: 6,
-        first: start,
-        second: end,
-    }
-}
-
 /// Four loops, the first and the third senseless.
 fn put_loops(list: &mut [u64; 20]) {
-    timeline::put_row(list, 0, loop_row(5, 5));
-    timeline::put_row(list, 1, loop_row(5, 6));
-    timeline::put_row(list, 2, loop_row(6, 5));
-    timeline::put_row(list, 3, loop_row(5, 7));
+    timeline::put_row(list, 0, row(8, 6, 5, 5));
+    timeline::put_row(list, 1, row(8, 6, 5, 6));
+    timeline::put_row(list, 2, row(8, 6, 6, 5));
+    timeline::put_row(list, 3, row(8, 6, 5, 7));
 }
 
 /// 22 in a replayed record: otherwise skipped, also where the queue is full.
