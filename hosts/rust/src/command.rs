@@ -15,8 +15,8 @@ pub struct ClockFrame(pub u64);
 #[derive(Clone, Copy, Debug, PartialEq, Eq, Hash)]
 pub struct Handle(pub(crate) raw::Handle);
 
-/// A loop from its start up to its end. A submission refuses one that no song could have; one past the length of the
-/// song that plays is taken, since a swap to a longer song may come first.
+/// A loop from its start up to its end. A submission refuses one whose start is not below its end; one past the length
+/// of the song that plays is taken, since a swap to a longer song may come first.
 ///
 /// ```
 /// use threshreed::{At, Command, LoopRange, Refusal, Song, SongFrame, Stores};
