@@ -3,8 +3,7 @@
 use mathlib.Core.Path.{_≡_, refl, sym, ap, ap₂, _∙_}
 use mathlib.Core.Bool.{true}
 use mathlib.Core.List.{List, [], _∷_, _++_, map, map-id}
-use Prim.Native.Nat.{ℕ, _≤_}
-use native.Mathlib.Omega.{arith}
+use Prim.Native.Nat.{ℕ}
 use lib.ListN.{length, length-map}
 use lib.Ieee.{Float}
 use Rattle.laws.specs.Block.{Machine, Ran, stand, ran, block as blockFrom}
@@ -24,19 +23,17 @@ use Rattle.stage.specs.Machine.{Told, machineOf}
 use Rattle.stage.proofs.Clock.{clocked}
 use Rattle.session.specs.declared.Session.{Session}
 use Rattle.session.specs.declared.Answered.{Answered}
-use Rattle.session.specs.Refusal.{numberOf}
 use Rattle.session.specs.WellFormed.{wellFormed}
-use Rattle.session.proofs.Refuse.{number-some, unless-both}
+use Rattle.session.proofs.Refuse.{unless-both}
 use Rattle.block.specs.Block.{weighBlock, ranOf, blockDone, blockOf}
 use Rattle.block.proofs.Queue.{queue-ran}
-use Rattle.submission.specs.declared.SubmitAnswer.{SubmitAnswer}
-use Rattle.submission.specs.Answer.{saysSubmit}
 use Rattle.submission.specs.Submit.{submitOf}
 use Rattle.submission.specs.Order.{accepted, waiting, recorded, exchanged, lastExchanged}
 use Rattle.submission.proofs.Order.{either-order}
-use Rattle.promises.specs.Calls.{State, submit, block, code, refusal, after}
+use Rattle.promises.specs.Calls.{State, submit, block, refusal, after}
 use Rattle.promises.specs.Kept.{Good}
 use Rattle.promises.specs.Exchanged.{Exchanged, SoundAlike, LaterBlocks, EitherOrder}
+use Rattle.promises.proofs.Fine.{accepts}
 use Rattle.promises.proofs.Kept.{keeps}
 
 -- ---- a block
@@ -139,17 +136,13 @@ later-blocks a b x y f g e (out ∷ outs) =
 -- ---- either order
 
 -- a submission that is not refused is accepted
-pub accepts : (x : State) (y : Submission) (at : At) → refusal (submit y at) x ≡ 0 → accepted (submitOf (x .session) (x .queue) (x .capture) y at .0 .answer) ≡ true
-accepts x y at = go (submitOf (x .session) (x .queue) (x .capture) y at .0 .answer)
-  where
-    go : (r : SubmitAnswer) → code (saysSubmit r) ≡ 0 → accepted r ≡ true
-    go (SubmitAnswer.Queued n) e = refl
-    go (SubmitAnswer.Refused k) e = let some : 1 ≤ numberOf k = number-some k in absurd (omega arith)
+pub submit-accepts : (x : State) (y : Submission) (at : At) → refusal (submit y at) x ≡ 0 → accepted (submitOf (x .session) (x .queue) (x .capture) y at .0 .answer) ≡ true
+submit-accepts x y at = accepts (submitOf (x .session) (x .queue) (x .capture) y at .0 .answer)
 
 -- two submissions for different clock frames sound alike in either order
 pub either-order-sounds : EitherOrder
 either-order-sounds x y z at bt g ty tz apart y1 z2 z1 y2 outs =
-    let o = either-order (x .session) (x .queue) (x .capture) y z at bt ty tz apart (accepts x y at y1) (accepts (after (submit y at) x) z bt z2) (accepts x z bt z1) (accepts (after (submit z bt) x) y at y2) in
+    let o = either-order (x .session) (x .queue) (x .capture) y z at bt ty tz apart (submit-accepts x y at y1) (submit-accepts (after (submit y at) x) z bt z2) (submit-accepts x z bt z1) (submit-accepts (after (submit z bt) x) y at y2) in
     later-blocks _ _ (after (submit z bt) (after (submit y at) x)) (after (submit y at) (after (submit z bt) x))
     (keeps (submit z bt) (after (submit y at) x) tz (keeps (submit y at) x ty g)) (keeps (submit y at) (after (submit z bt) x) ty (keeps (submit z bt) x tz g))
     (record { session = o .session; pool = refl; queue = o .queue; capture = o .capture }) outs

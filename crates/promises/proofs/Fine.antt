@@ -1,9 +1,12 @@
--- A call that is not refused weighs Fine. Assumes nothing.
-use mathlib.Core.Path.{_≡_, refl}
+-- A call that is not refused weighs Fine, and what a submission answers is what it weighs. Assumes nothing.
+use mathlib.Core.Path.{_≡_, refl, sym, ap}
+use mathlib.Core.Bool.{true}
 use mathlib.Core.List.{List}
 use Prim.Native.Nat.{ℕ, _≤_}
 use native.Mathlib.Omega.{arith}
 use lib.Ieee.{Float}
+use Rattle.timeline.specs.declared.Submission.{Submission}
+use Rattle.transport.specs.declared.At.{At}
 use Rattle.session.specs.declared.Refusal.{Refusal}
 use Rattle.session.specs.declared.Weighed.{Weighed}
 use Rattle.session.specs.declared.Answered.{Answered}
@@ -12,7 +15,12 @@ use Rattle.session.specs.Answer.{says}
 use Rattle.session.proofs.Refuse.{number-some, refused-or-done}
 use Rattle.block.specs.Block.{blockOf}
 use Rattle.block.proofs.Weigh.{Accepted, accepted, block-done}
-use Rattle.promises.specs.Calls.{State, block, code, refusal}
+use Rattle.submission.specs.declared.SubmitAnswer.{SubmitAnswer}
+use Rattle.submission.specs.declared.SubmitAnswered.{SubmitAnswered}
+use Rattle.submission.specs.Answer.{saysSubmit}
+use Rattle.submission.specs.Submit.{weighSubmit, taken, submitOf}
+use Rattle.submission.specs.Order as order
+use Rattle.promises.specs.Calls.{State, submit, block, code, refusal}
 
 -- a call that says 0 weighs Fine
 pub zero-fine : {A : Type 0} (w : Weighed) (refusal : Refusal → A) (done : A) (told : A → ℕ) → ((k : Refusal) → told (refusal k) ≡ numberOf k)
@@ -33,3 +41,21 @@ module _ (x : State) (out : List Float) where
   -- and one that is accepted says 0
   pub block-says : Accepted (x .session) (x .queue) (x .capture) (x .pool) out → refusal (block out) x ≡ 0
   block-says a = rw (block-done (x .session) (x .queue) (x .capture) (x .pool) out a)
+
+-- an answer that is no refusal has a number
+pub accepts : (r : SubmitAnswer) → code (saysSubmit r) ≡ 0 → order.accepted r ≡ true
+accepts (SubmitAnswer.Queued n) e = refl
+accepts (SubmitAnswer.Refused k) e = let some : 1 ≤ numberOf k = number-some k in absurd (omega arith)
+
+-- the number of the refusal that was weighed, 0 for none,
+abbrev pub weighedNumber : Weighed → ℕ
+weighedNumber Weighed.Fine = 0
+weighedNumber (Weighed.Refused k) = numberOf k
+
+-- is what a submission answers
+pub submit-says : (x : State) (y : Submission) (at : At) → refusal (submit y at) x ≡ weighedNumber (weighSubmit (x .session) (x .queue) (x .capture) y)
+unfolding submitOf taken
+submit-says x y at =
+    let w : Weighed = weighSubmit (x .session) (x .queue) (x .capture) y in
+    refused-or-done {A = SubmitAnswered × List ℕ × List ℕ} w _ _ (λ z. code (saysSubmit (z .0 .answer)) ≡ weighedNumber w) (λ k e. sym (ap weighedNumber e))
+    (λ e. sym (ap weighedNumber e))

@@ -42,7 +42,7 @@ use Rattle.promises.specs.Kept.{Good}
 use Rattle.promises.specs.Later.{SameButDeepest, SoundSame, SoundOn, Later}
 use Rattle.promises.proofs.Leaves.{heart, submit-leaves}
 use Rattle.promises.proofs.Fine.{block-accepts, block-says}
-use Rattle.promises.proofs.Exchanged.{accepts}
+use Rattle.promises.proofs.Exchanged.{submit-accepts}
 use Rattle.promises.proofs.Kept.{keeps}
 
 -- two calls that weigh the same: both are refused alike, or both do what they do
@@ -168,7 +168,7 @@ module _ (x : State) (y : Submission) (f : ClockFrame) (out : List Float) (g : G
   -- which make the same, and leave the command queued
   ran-joined : joined ≡ insertRan (machineOf (s .settings) view) (recordFor s (commandOf y) (At.Frame f)) alone
   unfolding ranOf
-  ran-joined = joined-is ∙ submission.block-later s (x .queue) (x .capture) y t f (accepts x y (At.Frame f) first) view (framesOf out) past
+  ran-joined = joined-is ∙ submission.block-later s (x .queue) (x .capture) y t f (submit-accepts x y (At.Frame f) first) view (framesOf out) past
 
   same-samples : outOf (after (submit y (At.Frame f)) x) out ≡ outOf x out
   same-samples =
@@ -183,8 +183,8 @@ module _ (x : State) (y : Submission) (f : ClockFrame) (out : List Float) (g : G
   sides =
       subst (λ (r : Ran Stage QueueRecord Pair Told). AlikeButDeepest (thenBlock z (r .at .core) (length (r .at .queue))) (submitOf (withStage s (alone .at .core) (length (alone .at .queue))) (x .queue) (x .capture) y (At.Frame f)))
       (sym joined-is)
-      (either-side s (x .queue) (x .capture) y t f (accepts x y (At.Frame f) first) view (framesOf out) past
-      (rw (block-done s (x .queue) (x .capture) (x .pool) out a) at (accepts (after (block out) x) y (At.Frame f) then)))
+      (either-side s (x .queue) (x .capture) y t f (submit-accepts x y (At.Frame f) first) view (framesOf out) past
+      (rw (block-done s (x .queue) (x .capture) (x .pool) out a) at (submit-accepts (after (block out) x) y (At.Frame f) then)))
 
 -- accepted before the block and after it, it gives the same but for the deepest depth
 pub later : Later

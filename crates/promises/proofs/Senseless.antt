@@ -13,43 +13,28 @@ use Rattle.timeline.specs.Store.{rowAt}
 use Rattle.transport.specs.declared.At.{At}
 use Rattle.session.specs.declared.Session.{Session}
 use Rattle.session.specs.declared.Refusal.{Refusal}
-use Rattle.session.specs.declared.Weighed.{Weighed}
-use Rattle.session.specs.Refusal.{numberOf}
-use Rattle.session.proofs.Refuse.{stop, skip, refused-or-done}
-use Rattle.submission.specs.declared.SubmitAnswered.{SubmitAnswered}
-use Rattle.submission.specs.Answer.{saysSubmit}
+use Rattle.session.proofs.Refuse.{stop, skip}
 use Rattle.submission.specs.Weigh.{weighCommand}
-use Rattle.submission.specs.Submit.{weighSubmit, taken, submitOf}
+use Rattle.submission.specs.Submit.{weighSubmit}
 use Rattle.submission.specs.Replay.{weighReplayed, replayed}
-use Rattle.promises.specs.Calls.{State, submit, code, refusal}
+use Rattle.promises.specs.Calls.{State, submit, refusal}
 use Rattle.promises.specs.Kept.{Good}
 use Rattle.promises.specs.Stale.{skipped}
 use Rattle.promises.specs.Senseless.{SenselessRefused}
+use Rattle.promises.proofs.Fine.{weighedNumber, submit-says}
 use Rattle.promises.proofs.Skips.{Otherwise, by, otherwise-after, row-skipped}
 use Rattle.promises.proofs.Taken.{reached-all}
-
--- the number of what was weighed, 0 for none
-abbrev told : Weighed → ℕ
-told Weighed.Fine = 0
-told (Weighed.Refused k) = numberOf k
-
--- is what a submission answers
-submit-told : (x : State) (y : Submission) (at : At) → refusal (submit y at) x ≡ told (weighSubmit (x .session) (x .queue) (x .capture) y)
-unfolding submitOf taken
-submit-told x y at =
-    let w : Weighed = weighSubmit (x .session) (x .queue) (x .capture) y in
-    refused-or-done {A = SubmitAnswered × List ℕ × List ℕ} w _ _ (λ z. code (saysSubmit (z .0 .answer)) ≡ told w) (λ k e. sym (ap told e)) (λ e. sym (ap told e))
 
 submitting : (x : State) (s e : SongFrame) (at : At) → Good x → e .0 ≤ s .0 → refusal (submit (Submission.Loop s e) at) x ≡ 22
 unfolding weighSubmit weighCommand
 submitting x s e at g l =
-    submit-told x (Submission.Loop s e) at
-    ∙ sym (ap told (skip _ _ _ _ (ap not (g .formed)) (skip _ _ _ _ refl (stop _ Refusal.SenselessLoop _ (ap not (le-ltb (s .0) (e .0) l))))))
+    submit-says x (Submission.Loop s e) at
+    ∙ sym (ap weighedNumber (skip _ _ _ _ (ap not (g .formed)) (skip _ _ _ _ refl (stop _ Refusal.SenselessLoop _ (ap not (le-ltb (s .0) (e .0) l))))))
 
 accepting : (x : State) (s e : SongFrame) (at : At) → s .0 < e .0 → refusal (submit (Submission.Loop s e) at) x ≡ refusal (submit Submission.ClearLoop at) x
 unfolding weighSubmit weighCommand
 accepting x s e at l =
-    submit-told x (Submission.Loop s e) at ∙ rw (lt-ltb (s .0) (e .0) l) (sym (submit-told x Submission.ClearLoop at))
+    submit-says x (Submission.Loop s e) at ∙ rw (lt-ltb (s .0) (e .0) l) (sym (submit-says x Submission.ClearLoop at))
 
 senseless-otherwise : (s : Session) (q : List ℕ) (r : Row) → isSenseless (readOf r) ≡ true → Otherwise (weighReplayed s q r)
 unfolding weighReplayed weighCommand

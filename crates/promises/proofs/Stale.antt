@@ -1,5 +1,5 @@
 -- A stale handle is refused for good, and no frame reads it. Assumes nothing.
-use mathlib.Core.Path.{_≡_, refl, sym, ap, subst}
+use mathlib.Core.Path.{_≡_, refl, sym, ap, _∙_, subst}
 use mathlib.Core.Bool.{true, false, not}
 use mathlib.Core.List.{List}
 use Prim.Native.Nat.{ℕ, zero, suc, _/_, _<_}
@@ -43,21 +43,18 @@ use Rattle.block.proofs.Pools.{SameClaim, SameTail, views-agree-on}
 use Rattle.clips.specs.Retire.{weighRetire, retireOf}
 use Rattle.clips.proofs.Held.{tailClaim, all-held}
 use Rattle.clips.proofs.Retired.{retired-spent}
-use Rattle.submission.specs.declared.SubmitAnswered.{SubmitAnswered}
 use Rattle.submission.specs.declared.ReplayAnswered.{ReplayAnswered}
-use Rattle.submission.specs.Answer.{saysSubmit}
 use Rattle.submission.specs.Weigh.{weighCommand}
 use Rattle.submission.specs.Submit.{weighSubmit}
 use Rattle.submission.specs.Order.{waiting}
 use Rattle.submission.specs.Replay.{Replaying, weighReplayed, replayed, replayOf}
-use Rattle.submission.proofs.Left.{submit-refused}
 use Rattle.promises.specs.Calls.{State, Call, retire, submit, replay, state, code, refusal, after, afterAll}
 use Rattle.promises.specs.Kept.{Good}
 use Rattle.promises.specs.Retire.{Live, Stale}
 use Rattle.promises.specs.Stale.{AllGiven, WasGiven, skipped, StaleForGood}
 use Rattle.promises.proofs.Skips.{Otherwise, by, otherwise-after, row-skipped}
 use Rattle.promises.proofs.Leaves.{replayed-leaves}
-use Rattle.promises.proofs.Fine.{zero-fine}
+use Rattle.promises.proofs.Fine.{zero-fine, weighedNumber, submit-says}
 use Rattle.promises.proofs.Banked.{spent-stays, kept-by-all}
 use Rattle.promises.proofs.Retire.{stale-says}
 
@@ -102,10 +99,10 @@ submitting : (h : Handle) (x : State) (y : Submission) (at : At) → Good x → 
     → refusal (submit y at) x ≡ 11
 unfolding weighSubmit weighCommand
 submitting h x y at g e c gain =
-    ap (λ (z : SubmitAnswered × List ℕ × List ℕ). code (saysSubmit (z .0 .answer)))
-    (submit-refused (x .session) (x .queue) (x .capture) at Refusal.Stale y
-    (sym (skip _ _ _ _ (ap not (g .formed)) (skip _ _ _ _ (ap not gain)
-    (skip _ _ _ _ (named-sensible h (commandOf y) c) (stop _ _ _ (stands-stale (x .session .bank) h (claimOf (commandOf y)) e c)))))))
+    submit-says x y at
+    ∙ sym (ap weighedNumber
+    (skip _ _ _ _ (ap not (g .formed)) (skip _ _ _ _ (ap not gain)
+    (skip _ _ _ _ (named-sensible h (commandOf y) c) (stop _ Refusal.Stale _ (stands-stale (x .session .bank) h (claimOf (commandOf y)) e c))))))
 
 -- ---- a replayed record that names it
 
