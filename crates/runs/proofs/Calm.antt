@@ -19,12 +19,12 @@ use Rattle.oneshot.specs.declared.Pair.{Pair}
 use Rattle.oneshot.specs.Pair.{pair}
 use Rattle.stage.specs.declared.Settings.{Settings}
 use Rattle.stage.specs.declared.Tail.{Tail}
-use Rattle.passes.specs.declared.Part.{Part}
-use Rattle.passes.specs.Over.{over}
-use Rattle.passes.specs.Adds.{shareOf, ticksOf, gainAt}
-use Rattle.passes.proofs.Over.{lt-or-ge, over-same}
-use Rattle.passes.proofs.Moving.{frame-left, frame-right}
-use Rattle.passes.proofs.Order.{add-swap}
+use Rattle.sweeps.specs.declared.Part.{Part}
+use Rattle.sweeps.specs.Over.{over}
+use Rattle.sweeps.specs.Adds.{shareOf, ticksOf, gainAt}
+use Rattle.sweeps.proofs.Over.{lt-or-ge, over-same}
+use Rattle.sweeps.proofs.Moving.{frame-left, frame-right}
+use Rattle.sweeps.proofs.Order.{add-swap}
 use Rattle.runs.specs.declared.Core.{Core}
 use Rattle.runs.specs.Core.{coreOn, coreGives, coreAfter, coreAdds, side}
 use Rattle.runs.specs.Run.{cursorBy, transportBy, tailBy, coreBy, Fading, Calm, songPart, overAdds}

@@ -14,7 +14,7 @@ use Rattle.bank.specs.Recording.{Recording, recordingOf}
 use Rattle.oneshot.specs.Pair.{pair}
 use Rattle.stage.specs.declared.Settings.{Settings}
 use Rattle.stage.specs.Playhead.{movedOf}
-use Rattle.passes.specs.Over.{over}
+use Rattle.sweeps.specs.Over.{over}
 use Rattle.runs.specs.declared.Core.{Core}
 use Rattle.runs.specs.Core.{coreOn, coreMade, coreAfter, coreAdds, CoreReady}
 

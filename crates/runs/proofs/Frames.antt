@@ -21,7 +21,7 @@ use Rattle.stage.specs.declared.Stage.{Stage}
 use Rattle.stage.specs.Sound.{only, sound, withTail, tailOn, renderedOf}
 use Rattle.stage.specs.Stage.{frameOf}
 use Rattle.stage.proofs.Keeps.{OfTail, tail-on}
-use Rattle.passes.proofs.Moving.{frame-left, frame-right}
+use Rattle.sweeps.proofs.Moving.{frame-left, frame-right}
 use Rattle.runs.specs.declared.Core.{Core}
 use Rattle.runs.specs.Voices.{voiceBy, voicesBy, Lasts, sumFrom}
 use Rattle.runs.specs.Core.{coreOf, coreOn, coreGives, coreAfter, coreAdds}

@@ -9,13 +9,13 @@ use lib.Ieee.{Float, nan}
 use Rattle.bank.specs.declared.Clip.{Clip}
 use Rattle.bank.specs.Recording.{Recording, recordingOf}
 use Rattle.stage.specs.declared.Settings.{Settings}
-use Rattle.passes.specs.Over.{over}
-use Rattle.passes.proofs.Over.{length-over, over-split, over-same}
+use Rattle.sweeps.specs.Over.{over}
+use Rattle.sweeps.proofs.Over.{length-over, over-split, over-same}
 use Rattle.runs.specs.declared.Core.{Core}
 use Rattle.runs.specs.Core.{coreAfter, coreAdds, CoreReady}
 use Rattle.runs.proofs.Cores.{after-add, adds-later, after-ready}
 
--- ---- a pass from a place on is a pass over what stands from there on
+-- ---- a sweep from a place on is a sweep over what stands from there on
 
 module _ (f : ℕ → Float → Float) (a : ℕ) (os : List Float) where
   over-take : (n : ℕ) → take a (over f a n os) ≡ take a os

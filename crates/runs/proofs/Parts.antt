@@ -16,7 +16,7 @@ use Rattle.bank.specs.Recording.{recordingOf}
 use Rattle.oneshot.specs.Heard.{heardOf, sampleAt}
 use Rattle.oneshot.specs.Sounding.{LiesIn}
 use Rattle.oneshot.proofs.Places.{place-inside, place-past}
-use Rattle.passes.specs.Adds.{shareOf, Reads}
+use Rattle.sweeps.specs.Adds.{shareOf, Reads}
 use Rattle.runs.specs.Run.{Inside, silent, partOf, songPart}
 use Rattle.runs.proofs.Song.{Ends, clipShare, songShare}
 

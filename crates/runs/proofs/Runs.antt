@@ -21,15 +21,15 @@ use Rattle.stage.specs.declared.Settings.{Settings}
 use Rattle.stage.specs.declared.Stage.{Stage}
 use Rattle.stage.specs.Stage.{frameOf}
 use Rattle.stage.specs.Machine.{Told, machineOf, outputOf}
-use Rattle.passes.specs.Over.{over}
-use Rattle.passes.specs.Adds.{cleared}
-use Rattle.passes.proofs.Over.{length-over, over-again}
+use Rattle.sweeps.specs.Over.{over}
+use Rattle.sweeps.specs.Adds.{cleared}
+use Rattle.sweeps.proofs.Over.{length-over, over-again}
 use Rattle.runs.specs.Voices.{voicesBy, Lasts, sumFrom, sums}
 use Rattle.runs.specs.Core.{coreOf, coreAfter, coreAdds}
 use Rattle.runs.specs.Frames.{stretchOf}
 use Rattle.runs.proofs.Frames.{Tails, stageOn, stageAt, outs, stage-none, stage-frame}
 
--- ---- a pass that writes each place is the samples of its frames, and after them what stood there
+-- ---- a sweep that writes each place is the samples of its frames, and after them what stood there
 
 module _ (f : ℕ → Float) where
   -- the frame of places 2j and 2j + 1

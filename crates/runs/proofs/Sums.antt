@@ -13,46 +13,46 @@ use Rattle.bank.specs.Recording.{Recording, View, recordingOf}
 use Rattle.oneshot.specs.declared.Voice.{Voice}
 use Rattle.oneshot.specs.Heard.{heardOf}
 use Rattle.oneshot.proofs.Places.{place-inside}
-use Rattle.passes.specs.Over.{over}
-use Rattle.passes.specs.Adds.{shareOf, ticksOf, gainAt, adds, streamAdds, fourAdds, cleared}
-use Rattle.passes.proofs.Four.{four-adds}
-use Rattle.passes.proofs.Ticks.{gain-landed}
-use Rattle.passes.proofs.Over.{length-over, over-same, over-again}
+use Rattle.sweeps.specs.Over.{over}
+use Rattle.sweeps.specs.Adds.{shareOf, ticksOf, gainAt, adds, streamAdds, fourAdds, cleared}
+use Rattle.sweeps.proofs.Four.{four-adds}
+use Rattle.sweeps.proofs.Ticks.{gain-landed}
+use Rattle.sweeps.proofs.Over.{length-over, over-same, over-again}
 use Rattle.runs.specs.Voices.{voiceBy, LastsIn, Still, streamOf, shareIn, voiceAdds, voiceOn, sumFrom, sums}
 
 -- ---- one voice
 
 -- a part that sounds is the clip from the voice's head on
-pub voice-pass : (pool : List Float) (c : Clip) (v : Voice) (n : ℕ) (os : List Float) → v .head .0 + n * 2 < c .frames * 2
+pub voice-sweep : (pool : List Float) (c : Clip) (v : Voice) (n : ℕ) (os : List Float) → v .head .0 + n * 2 < c .frames * 2
     → over (adds pool (record { on = true; at = c .start * 2 + v .head .0 }) (v .gain)) 0 (n * 2) os ≡ voiceOn pool c n v os
 unfolding shareOf shareIn
-voice-pass pool c v n os h =
+voice-sweep pool c v n os h =
     over-same (adds pool (record { on = true; at = c .start * 2 + v .head .0 }) (v .gain)) (voiceAdds (recordingOf pool c) v) 0 os (n * 2)
     (λ k a b x.
     let e : c .start * 2 + v .head .0 + k ≡ c .start * 2 + (v .head .0 + k) = omega arith in
     ap (λ y. add binary32 x (mul binary32 y (gainAt (v .gain) (k / 2)))) (ap (λ i. heardOf (getD pool i nan)) e ∙ sym (place-inside pool c (v .head .0 + k) (omega arith))))
 
 -- so is its stream, if its gain stands still
-pub still-pass : (pool : List Float) (c : Clip) (v : Voice) (n : ℕ) (os : List Float) → Still v → v .head .0 + n * 2 < c .frames * 2
+pub still-sweep : (pool : List Float) (c : Clip) (v : Voice) (n : ℕ) (os : List Float) → Still v → v .head .0 + n * 2 < c .frames * 2
     → over (streamAdds pool (streamOf v c)) 0 (n * 2) os ≡ voiceOn pool c n v os
 unfolding ticksOf
-still-pass pool c v n os r h =
+still-sweep pool c v n os r h =
     over-same (streamAdds pool (streamOf v c)) (adds pool (record { on = true; at = c .start * 2 + v .head .0 }) (v .gain)) 0 os (n * 2)
     (λ k a b x.
     ap (λ g. add binary32 x (mul binary32 (shareOf pool (record { on = true; at = c .start * 2 + v .head .0 }) k) g)) (sym (gain-landed 0 (k / 2) (v .gain) (omega (arith, r)) (omega arith))))
-    ∙ voice-pass pool c v n os h
+    ∙ voice-sweep pool c v n os h
 
 -- four of them
-pub four-pass : (pool : List Float) (n m : ℕ) (a b c d : Voice) (ca cb cc cd : Clip) (os : List Float)
+pub four-sweep : (pool : List Float) (n m : ℕ) (a b c d : Voice) (ca cb cc cd : Clip) (os : List Float)
     → Still a × Still b × Still c × Still d → LastsIn m n a ca × LastsIn m n b cb × LastsIn m n c cc × LastsIn m n d cd × (n * 2 ≤ length os)
     → over (fourAdds pool (streamOf a ca) (streamOf b cb) (streamOf c cc) (streamOf d cd)) 0 (n * 2) os
     ≡ voiceOn pool cd n d (voiceOn pool cc n c (voiceOn pool cb n b (voiceOn pool ca n a os)))
-four-pass pool n m a b c d ca cb cc cd os s h =
+four-sweep pool n m a b c d ca cb cc cd os s h =
     four-adds pool (streamOf a ca) (streamOf b cb) (streamOf c cc) (streamOf d cd) (n * 2) os (h .4)
-    ∙ still-pass pool cd d n _ (s .3) (h .3 .1)
+    ∙ still-sweep pool cd d n _ (s .3) (h .3 .1)
     ∙ ap (voiceOn pool cd n d)
-    (still-pass pool cc c n _ (s .2) (h .2 .1)
-    ∙ ap (voiceOn pool cc n c) (still-pass pool cb b n _ (s .1) (h .1 .1) ∙ ap (voiceOn pool cb n b) (still-pass pool ca a n os (s .0) (h .0 .1))))
+    (still-sweep pool cc c n _ (s .2) (h .2 .1)
+    ∙ ap (voiceOn pool cc n c) (still-sweep pool cb b n _ (s .1) (h .1 .1) ∙ ap (voiceOn pool cb n b) (still-sweep pool ca a n os (s .0) (h .0 .1))))
 
 -- ---- voice after voice
 
@@ -61,7 +61,7 @@ unfolding sumFrom
 sum-snoc view [] v k x = refl
 sum-snoc view (u ∷ us) v k x = sum-snoc view us v k (add binary32 x (shareIn (view (u .handle)) u k))
 
--- a pass that leaves each place
+-- a sweep that leaves each place
 over-idle : (f : ℕ → Float → Float) → ((k : ℕ) (x : Float) → f k x ≡ x) → (n : ℕ) (os : List Float) → over f 0 n os ≡ os
 unfolding over
 over-idle f h zero os = refl

@@ -17,9 +17,9 @@ use Rattle.oneshot.specs.Pair.{pair}
 use Rattle.stage.specs.declared.Settings.{Settings}
 use Rattle.stage.specs.declared.Tail.{Tail}
 use Rattle.stage.specs.Sound.{only, withTail, tailOn}
-use Rattle.passes.specs.Adds.{ticksOf, gainAt}
-use Rattle.passes.proofs.Moving.{frame-left, frame-right}
-use Rattle.passes.proofs.Ticks.{ticks-remaining}
+use Rattle.sweeps.specs.Adds.{ticksOf, gainAt}
+use Rattle.sweeps.proofs.Moving.{frame-left, frame-right}
+use Rattle.sweeps.proofs.Ticks.{ticks-remaining}
 use Rattle.runs.specs.Run.{tailBy, Fading}
 use Rattle.runs.proofs.Song.{Ends, clipShare, cursor-frame, cursor-reads, cursor-left}
 

@@ -19,8 +19,8 @@ use Rattle.oneshot.specs.Voice.{voiceOf}
 use Rattle.oneshot.specs.Mix.{mixOf, mixIn, sounding}
 use Rattle.oneshot.specs.Sounding.{Each}
 use Rattle.oneshot.proofs.Next.{Every, every}
-use Rattle.passes.specs.Adds.{ticksOf}
-use Rattle.passes.proofs.Moving.{frame-left, frame-right}
+use Rattle.sweeps.specs.Adds.{ticksOf}
+use Rattle.sweeps.proofs.Moving.{frame-left, frame-right}
 use Rattle.runs.specs.Voices.{voiceBy, voicesBy, Lasts, shareIn, sumFrom}
 
 module _ (view : View) where

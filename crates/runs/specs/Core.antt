@@ -54,7 +54,7 @@ module _ (x : Settings) (s t : Recording) where
   coreAfter zero c = c
   coreAfter (suc n) c = coreOn (coreAfter n c)
 
-  -- as a rule of a pass: what the place's frame gives there, plus the sum that stands there
+  -- as a rule of a sweep: what the place's frame gives there, plus the sum that stands there
   abbrev pub coreAdds : Core → ℕ → Float → Float
   coreAdds c k sum = add binary32 (side k (coreGives (coreAfter (k / 2) c))) sum
 

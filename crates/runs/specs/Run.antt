@@ -16,8 +16,8 @@ use Rattle.bank.specs.Slots.{extentOf}
 use Rattle.oneshot.specs.Sounding.{LiesIn}
 use Rattle.stage.specs.declared.Tail.{Tail}
 use Rattle.stage.specs.Playhead.{playhead}
-use Rattle.passes.specs.declared.Part.{Part}
-use Rattle.passes.specs.Adds.{ticksOf, adds, bothAdds, Reads}
+use Rattle.sweeps.specs.declared.Part.{Part}
+use Rattle.sweeps.specs.Adds.{ticksOf, adds, bothAdds, Reads}
 use Rattle.runs.specs.declared.Core.{Core}
 
 -- ---- where n frames lead

@@ -12,9 +12,9 @@ use Rattle.oneshot.specs.declared.Voices.{Voices}
 use Rattle.oneshot.specs.Heard.{sampleAt}
 use Rattle.oneshot.specs.Mix.{sounding}
 use Rattle.oneshot.specs.Sounding.{LiesIn}
-use Rattle.passes.specs.declared.Stream.{Stream}
-use Rattle.passes.specs.Over.{over}
-use Rattle.passes.specs.Adds.{ticksOf, gainAt}
+use Rattle.sweeps.specs.declared.Stream.{Stream}
+use Rattle.sweeps.specs.Over.{over}
+use Rattle.sweeps.specs.Adds.{ticksOf, gainAt}
 
 -- a voice n frames on
 abbrev pub voiceBy : ℕ → Voice → Voice
@@ -44,7 +44,7 @@ streamOf v c = record { at = c .start * 2 + v .head .0; gain = v .gain .value }
 unfoldable pub shareIn : Recording → Voice → ℕ → Float
 shareIn x v k = mul binary32 (sampleAt x (v .head .0 + k)) (gainAt (v .gain) (k / 2))
 
--- as a rule of a pass
+-- as a rule of a sweep
 abbrev pub voiceAdds : Recording → Voice → ℕ → Float → Float
 voiceAdds x v k y = add binary32 y (shareIn x v k)
 
@@ -57,6 +57,6 @@ unfoldable pub sumFrom : View → List Voice → ℕ → Float → Float
 sumFrom view [] k x = x
 sumFrom view (v ∷ vs) k x = sumFrom view vs k (add binary32 x (shareIn (view (v .handle)) v k))
 
--- the stinger sum at place k of a run, as a rule of a pass
+-- the stinger sum at place k of a run, as a rule of a sweep
 abbrev pub sums : View → List Voice → ℕ → Float → Float
 sums view vs k x = sumFrom view vs k zero32

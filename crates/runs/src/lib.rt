@@ -10,8 +10,8 @@ ghost use Rattle.stage.specs.Machine.{outputOf};
 ghost use Rattle.bank.specs.Recording.{recordingOf, viewOf};
 ghost use Rattle.oneshot.specs.Mix.{sounding};
 ghost use Rattle.oneshot.specs.Sounding.{Each, Ready};
-ghost use Rattle.passes.specs.Over.{over};
-ghost use Rattle.passes.specs.Adds.{ticksOf};
+ghost use Rattle.sweeps.specs.Over.{over};
+ghost use Rattle.sweeps.specs.Adds.{ticksOf};
 ghost use Rattle.runs.specs.Voices.{voiceBy, voicesBy, Lasts, LastsIn, Still, streamOf, voiceOn, sums};
 ghost use Rattle.runs.specs.Core.{coreMade, coreAfter, coreAdds, CoreReady};
 ghost use Rattle.runs.specs.Run.{cursorBy, transportBy, tailBy, coreBy, endOf, Inside, Steady, Fading, Calm, partOf, songPart, overAdds, OverReady, slotOf};
@@ -25,8 +25,8 @@ use counts::SongFrame;
 use oneshot::Pair;
 use oneshot::Voice;
 use oneshot::Voices;
-use passes::Part;
-use passes::Stream;
+use sweeps::Part;
+use sweeps::Stream;
 use ramp::Ramp;
 use stage::Fade;
 use stage::Playhead;
@@ -48,7 +48,7 @@ fn voice_on(v: Voice, pool: &[f32], clip: Clip, out: &mut [f32], frames: usize) 
     let at = start + head;
     let part = Part { on: true, at: at };
     let ramp = v.gain;
-    let gain = passes::add_part(pool, part, out, frames, ramp);
+    let gain = sweeps::add_part(pool, part, out, frames, ramp);
     let next = head + frames * 2;
     Voice {
         handle: handle,
@@ -129,7 +129,7 @@ fn four_on(
         let sb = stream_of(b, cb);
         let sc = stream_of(c, cc);
         let sd = stream_of(d, cd);
-        passes::add_four(pool, sa, sb, sc, sd, out, places);
+        sweeps::add_four(pool, sa, sb, sc, sd, out, places);
         let wa = still_by(a, frames);
         let wb = still_by(b, frames);
         let wc = still_by(c, frames);
@@ -196,7 +196,7 @@ fn mix_on(voices: Voices, pool: &[f32], bank: Bank, out: &mut [f32], frames: usi
     let mut table = voices.table;
     let count = voices.count;
     let places = frames * 2;
-    passes::clear(&mut out[..], places);
+    sweeps::clear(&mut out[..], places);
     let mut i: usize = 0;
     while i < count {
         if 4 <= count - i {
@@ -321,7 +321,7 @@ fn over_sums(
     let tail = fade.tail;
     match tail {
         Tail::None => {
-            let g = passes::add_part(pool, song, out, n, master);
+            let g = sweeps::add_part(pool, song, out, n, master);
             Over {
                 master: g,
                 fade: fade,
@@ -329,7 +329,7 @@ fn over_sums(
         }
         Tail::Sounding(h, cursor, weight) => {
             let part = part_of(clip, cursor);
-            let gains = passes::add_both(pool, song, part, out, n, master, weight);
+            let gains = sweeps::add_both(pool, song, part, out, n, master, weight);
             let g = gains.master;
             let w = gains.weight;
             let on = cursor_by(clip.frames, cursor, n);
@@ -617,7 +617,7 @@ pub fn frames_on(
     let voices = sound.voices;
     if voices.count == 0 {
         let places = most * 2;
-        passes::clear(&mut out[..], places);
+        sweeps::clear(&mut out[..], places);
         let next = over_frames(core, settings, pool, song, clip, out, most);
         let next_playhead = next.playhead;
         let next_master = next.master;

@@ -8,9 +8,9 @@ use Rattle.bank.specs.declared.Clip.{Clip}
 use Rattle.bank.specs.Slots.{clipOf}
 use Rattle.bank.specs.Recording.{recordingOf, viewOf}
 use Rattle.oneshot.specs.Mix.{sounding}
-use Rattle.passes.specs.Over.{over}
-use Rattle.passes.specs.Adds.{cleared}
-use Rattle.passes.proofs.Over.{length-over}
+use Rattle.sweeps.specs.Over.{over}
+use Rattle.sweeps.specs.Adds.{cleared}
+use Rattle.sweeps.proofs.Over.{length-over}
 use Rattle.runs.specs.Voices.{sums}
 use Rattle.runs.specs.Core.{CoreReady, coreOf}
 use Rattle.runs.specs.Run.{slotOf}

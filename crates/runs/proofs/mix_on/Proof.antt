@@ -6,8 +6,8 @@ use lib.Ieee.{nan}
 use Rattle.bank.specs.declared.Kind.{Kind}
 use Rattle.bank.specs.declared.Clip.{Clip}
 use Rattle.oneshot.specs.declared.Voice.{Voice}
-use Rattle.passes.specs.Adds.{cleared}
-use Rattle.passes.proofs.Over.{length-over}
+use Rattle.sweeps.specs.Adds.{cleared}
+use Rattle.sweeps.proofs.Over.{length-over}
 use Rattle.runs.proofs.Table.{Able, able-its, able-turn, able-four}
 use native.Mathlib.Omega.{arith}
 use Rattle.bank.specs.Recording.{viewOf}

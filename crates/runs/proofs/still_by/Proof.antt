@@ -1,7 +1,7 @@
 -- `runs::still_by` meets its contract. Assumes nothing.
 use mathlib.Core.Path.{refl}
 use borrow.Author.Needs.{needs}
-use Rattle.passes.proofs.Ticks.{ticks-rest}
+use Rattle.sweeps.proofs.Ticks.{ticks-rest}
 use Rattle.runs.proofs.still_by.Statement.{statement}
 use Rattle.runs.proofs.still_by.Tie as tie
 
