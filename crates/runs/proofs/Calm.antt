@@ -26,7 +26,7 @@ use Rattle.sweeps.proofs.Over.{lt-or-ge, over-same}
 use Rattle.sweeps.proofs.Moving.{frame-left, frame-right}
 use Rattle.sweeps.proofs.Order.{add-swap}
 use Rattle.runs.specs.declared.Core.{Core}
-use Rattle.runs.specs.Core.{coreOn, coreGives, coreAfter, coreAdds, side}
+use Rattle.runs.specs.Core.{coreOn, coreGives, corePasses, coreAfter, passesIn, coreAdds, side}
 use Rattle.runs.specs.Run.{cursorBy, transportBy, tailBy, coreBy, Fading, Calm, songPart, overAdds}
 use Rattle.runs.proofs.Song.{songShare, moved-frame, played-frame}
 use Rattle.runs.proofs.Tail.{ticks-next, tailAdds, tail-frame, tail-adds}
@@ -113,6 +113,15 @@ module _ (pool : List Float) (x : Settings) (song clip : Clip) (c : Core) (n : �
   unfolding coreAfter
   calm-after zero le = sym (core-none (song .frames) (clip .frames) c)
   calm-after (suc j) le = ap (coreOn x s t) (calm-after j (omega arith)) ∙ calm-on j (omega arith) ∙ ap (λ i. coreBy (song .frames) (clip .frames) i c) (add-one j)
+
+  -- it passes no loop's end
+  calm-still : (j : ℕ) → j < n → corePasses x s t (coreBy (song .frames) (clip .frames) j c) ≡ 0
+  calm-still j lt = ap (λ m. m .passes) (moved-frame x (c .playhead) (song .frames) (extentOf (song .kind)) n j (h .song) lt)
+
+  pub calm-passes : (j : ℕ) → j ≤ n → passesIn x s t j c ≡ 0
+  unfolding passesIn
+  calm-passes zero le = refl
+  calm-passes (suc j) le = rw (calm-after j (omega arith), calm-still j (omega arith), calm-passes j (omega arith)) refl
 
   -- what it adds
   calm-adds : (k : ℕ) (y : Float) → k < n * 2 → coreAdds x s t c k y ≡ add binary32 (leads k) y

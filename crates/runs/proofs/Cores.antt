@@ -2,13 +2,14 @@
 use mathlib.Core.Path.{_≡_, refl, ap}
 use mathlib.Core.Bool.{true}
 use mathlib.Core.List.{List}
-use Prim.Native.Nat.{ℕ, zero, suc, _+_, _*_, _/_, _%_}
+use Prim.Native.Nat.{ℕ, zero, suc, _+_, _*_, _/_, _%_, _≤_}
 use native.Mathlib.Nat.{add-zero}
 use native.Mathlib.Omega.{arith}
 use lib.ListN.{length, getD, set}
 use lib.Ieee.{Float, nan}
 use Rattle.transport.specs.Transport.{transportFits}
 use Rattle.transport.proofs.Fits.{step-fits}
+use Rattle.transport.proofs.Passes.{few}
 use Rattle.bank.specs.declared.Clip.{Clip}
 use Rattle.bank.specs.Recording.{Recording, recordingOf}
 use Rattle.oneshot.specs.Pair.{pair}
@@ -16,7 +17,7 @@ use Rattle.stage.specs.declared.Settings.{Settings}
 use Rattle.stage.specs.Playhead.{movedOf}
 use Rattle.sweeps.specs.Over.{over}
 use Rattle.runs.specs.declared.Core.{Core}
-use Rattle.runs.specs.Core.{coreOn, coreMade, coreAfter, coreAdds, CoreReady}
+use Rattle.runs.specs.Core.{coreOn, corePasses, coreMade, coreAfter, passesIn, coreAdds, CoreReady}
 
 module _ (x : Settings) (s t : Recording) where
   -- one frame
@@ -27,6 +28,10 @@ module _ (x : Settings) (s t : Recording) where
   pub adds-one : (c : Core) (os : List Float) → let m = coreMade x s t c (pair (getD os 0 nan) (getD os 1 nan)) in over (coreAdds x s t c) 0 2 os ≡ set (set os 0 (m .out .left)) 1 (m .out .right)
   unfolding coreAfter over
   adds-one c os = refl
+
+  pub passes-one : (c : Core) → passesIn x s t 1 c ≡ corePasses x s t c
+  unfolding coreAfter passesIn
+  passes-one c = omega arith
 
   -- so many frames, and then so many
   pub after-add : (a b : ℕ) (c : Core) → coreAfter x s t (a + b) c ≡ coreAfter x s t b (coreAfter x s t a c)
@@ -39,6 +44,19 @@ module _ (x : Settings) (s t : Recording) where
       let e : (a * 2 + k) / 2 ≡ a + k / 2 = omega arith in
       let r : (a * 2 + k) % 2 ≡ k % 2 = omega arith in
       rw (e, r, after-add a (k / 2) c) refl
+
+  pub passes-add : (a b : ℕ) (c : Core) → passesIn x s t (a + b) c ≡ passesIn x s t a c + passesIn x s t b (coreAfter x s t a c)
+  unfolding coreAfter passesIn
+  passes-add a zero c = rw (add-zero a, add-zero (passesIn x s t a c)) refl
+  passes-add a (suc b) c =
+      let e : a + suc b ≡ suc (a + b) = omega arith in
+      rw (e, after-add a b c) (omega (arith, passes-add a b c))
+
+  -- at most two a frame
+  pub passes-few : (n : ℕ) (c : Core) → passesIn x s t n c ≤ n * 2
+  unfolding passesIn movedOf
+  passes-few zero c = omega arith
+  passes-few (suc n) c = omega (arith, passes-few n c, few (s .frames) (s .extent) (coreAfter x s t n c .playhead .transport))
 
   -- a frame keeps the song
   pub after-song : (n : ℕ) (c : Core) → coreAfter x s t n c .playhead .song ≡ c .playhead .song

@@ -9,4 +9,4 @@ inside-fewer frames c m n i h l = omega (arith, i l)
 
 pub steady-fewer : (frames extent m n : ℕ) (t : Transport) → Steady frames extent m t → n ≤ m → Steady frames extent n t
 steady-fewer frames extent m n t s h =
-    record { end = λ e. omega (arith, s .end e); low = λ e. omega (arith, s .low e); inside = λ e. inside-fewer frames (t .cursor .0) m n (s .inside e) h }
+    record { end = λ e. omega (arith, s .end e); low = λ e. omega (arith, s .low e); inside = λ e. inside-fewer frames (t .cursor .0) m n (s .inside e) h; laps = s .laps }

@@ -24,7 +24,7 @@ use Rattle.stage.proofs.Keeps.{OfTail, tail-on}
 use Rattle.sweeps.proofs.Moving.{frame-left, frame-right}
 use Rattle.runs.specs.declared.Core.{Core}
 use Rattle.runs.specs.Voices.{voiceBy, voicesBy, Lasts, sumFrom}
-use Rattle.runs.specs.Core.{coreOf, coreOn, coreGives, coreAfter, coreAdds}
+use Rattle.runs.specs.Core.{coreOf, coreOn, coreGives, corePasses, coreAfter, coreAdds}
 use Rattle.runs.proofs.Voices.{by-none, mixed-frame}
 use Rattle.runs.proofs.Cores.{after-song}
 use Rattle.runs.proofs.Calm.{side-left, side-right}
@@ -71,6 +71,10 @@ module _ (x : Settings) (view : View) (t : Recording) where
     unfoldable pub stageAt : ℕ → Stage
     stageAt n = stageOn s (voicesBy n (s .sound .voices)) n (coreAt n)
 
+    -- the passes of the frame that it makes there
+    abbrev pub passesAt : ℕ → ℕ
+    passesAt n = corePasses x (view (s .playhead .song)) t (coreAt n)
+
     -- what stands at place k of the output
     abbrev pub outs : ℕ → Float
     outs k = coreAdds x (view (s .playhead .song)) t (coreOf s) k (sumFrom view (sounding (s .sound .voices)) k zero32)
@@ -80,7 +84,7 @@ module _ (x : Settings) (view : View) (t : Recording) where
     stage-none = rw (add-zero (s .clock .0), voices-none (s .sound .voices)) refl
 
     pub stage-frame : (j : ℕ) → Tails view t (s .sound .fade .tail) → Each (Lasts view (j + 1)) (s .sound .voices) → s .sound .voices .count ≤ length (s .sound .voices .table)
-        → frameOf x view (stageAt j) ≡ record { stage = stageAt (j + 1); out = pair (outs (j * 2)) (outs (j * 2 + 1)) }
+        → frameOf x view (stageAt j) ≡ record { stage = stageAt (j + 1); out = pair (outs (j * 2)) (outs (j * 2 + 1)); passes = passesAt j }
     unfolding frameOf renderedOf stageAt coreGives coreOn coreAfter
     stage-frame j e l c =
         let u : Tails view t (coreAt j .fade .tail) = tails-after (view (s .playhead .song)) j (coreOf s) e in

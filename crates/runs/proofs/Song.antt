@@ -1,7 +1,7 @@
 -- A frame of the song in the middle of a run: rules a and b decide as before. Assumes nothing.
 use mathlib.Core.Path.{_≡_, refl, sym, ap, _∙_}
 use mathlib.Core.Bool.{Bool, true, false, cond}
-use Prim.Native.Nat.{ℕ, _+_, _*_, _≤_, _<_}
+use Prim.Native.Nat.{ℕ, _+_, _-_, _*_, _^_, _≤_, _<_, min}
 use native.Mathlib.Omega.{arith}
 use lib.Dec.{leb, ltb}
 use lib.Ieee.{Float}
@@ -12,7 +12,7 @@ use Rattle.transport.specs.declared.TransportState.{TransportState}
 use Rattle.transport.specs.declared.LoopRange.{LoopRange}
 use Rattle.transport.specs.declared.Transport.{Transport}
 use Rattle.transport.specs.declared.Stepped.{Stepped}
-use Rattle.transport.specs.Transport.{isPlaying, transport, wrapOf, cursorOn, advanceOf, stepOf}
+use Rattle.transport.specs.Transport.{isPlaying, transport, wrapOf, cursorOn, advanceOf, isPast, comesRound, stepOf}
 use Rattle.bank.specs.Recording.{Recording}
 use Rattle.counts.specs.Counts.{placeOf}
 use Rattle.oneshot.specs.Heard.{sampleAt}
@@ -63,28 +63,32 @@ abbrev pub readAt : ℕ → ℕ → Transport → SongFrame
 readAt frames j t = cond (isPlaying (t .state)) (record { 0 = cursorBy frames (t .cursor .0) j }) (t .cursor)
 
 abbrev stepped : ℕ → ℕ → Transport → Stepped
-stepped frames j t = record { transport = transportBy frames (j + 1) t; playing = isPlaying (t .state); cursor = readAt frames j t }
+stepped frames j t = record { transport = transportBy frames (j + 1) t; playing = isPlaying (t .state); cursor = readAt frames j t; passes = 0 }
+
+-- no pass, no lap more
+no-lap : (k : ℕ) → k < 2 ^ 64 → min (k + 0) (2 ^ 64 - 1) ≡ k
+no-lap k h = omega arith
 
 -- the transport's step
-step-parts : (st : TransportState) (p c : ℕ) (l : LoopRange) (frames extent n j : ℕ) → Steady frames extent n (transport st p c l) → j < n
-    → stepOf frames extent (transportBy frames j (transport st p c l)) ≡ stepped frames j (transport st p c l)
-unfolding stepOf wrapOf advanceOf
-step-parts TransportState.Stopped p c l frames extent n j h lt = refl
-step-parts TransportState.Paused p c l frames extent n j h lt = refl
-step-parts TransportState.Playing p c LoopRange.Off frames extent n j h lt =
+step-parts : (st : TransportState) (p c k : ℕ) (l : LoopRange) (frames extent n j : ℕ) → Steady frames extent n (transport st p c l k) → j < n
+    → stepOf frames extent (transportBy frames j (transport st p c l k)) ≡ stepped frames j (transport st p c l k)
+unfolding stepOf wrapOf advanceOf isPast comesRound
+step-parts TransportState.Stopped p c k l frames extent n j h lt = rw (no-lap k (h .laps)) refl
+step-parts TransportState.Paused p c k l frames extent n j h lt = rw (no-lap k (h .laps)) refl
+step-parts TransportState.Playing p c k LoopRange.Off frames extent n j h lt =
     let a : p + n < extent = h .end refl in
     let q : leb extent (p + j + 1) ≡ false = lt-leb extent (p + j + 1) (omega arith) in
     let r : p + j + 1 ≡ p + (j + 1) = omega arith in
-    rw (q, r, cursor-frame frames c n j (h .inside refl) lt) refl
-step-parts TransportState.Playing p c (LoopRange.Range s e) frames extent n j h lt =
+    rw (q, r, cursor-frame frames c n j (h .inside refl) lt, no-lap k (h .laps)) refl
+step-parts TransportState.Playing p c k (LoopRange.Range s e) frames extent n j h lt =
     let a : p + n < e .0 = h .end refl in
     let o : leb (e .0) (p + j) ≡ false = lt-leb (e .0) (p + j) (omega arith) in
     let q : leb (e .0) (p + j + 1) ≡ false = lt-leb (e .0) (p + j + 1) (omega arith) in
     let r : p + j + 1 ≡ p + (j + 1) = omega arith in
-    rw (o, q, r, cursor-frame frames c n j (h .inside refl) lt) refl
+    rw (o, q, r, cursor-frame frames c n j (h .inside refl) lt, no-lap k (h .laps)) refl
 
 pub step-frame : (t : Transport) (frames extent n j : ℕ) → Steady frames extent n t → j < n → stepOf frames extent (transportBy frames j t) ≡ stepped frames j t
-step-frame t frames extent n j h lt = step-parts (t .state) (t .position .0) (t .cursor .0) (t .looped) frames extent n j h lt
+step-frame t frames extent n j h lt = step-parts (t .state) (t .position .0) (t .cursor .0) (t .laps) (t .looped) frames extent n j h lt
 
 -- the song, if it plays
 abbrev pub songShare : Recording → Transport → ℕ → Float
@@ -93,13 +97,13 @@ songShare x t k = cond (isPlaying (t .state)) (clipShare x (t .cursor .0) k) zer
 -- the playhead's step
 pub moved-frame : (x : Settings) (p : Playhead) (frames extent n j : ℕ) → Steady frames extent n (p .transport) → j < n
     → movedOf x frames extent (playhead (transportBy frames j (p .transport)) (p .song))
-    ≡ record { playhead = playhead (transportBy frames (j + 1) (p .transport)) (p .song); playing = isPlaying (p .transport .state); cursor = readAt frames j (p .transport) }
+    ≡ record { playhead = playhead (transportBy frames (j + 1) (p .transport)) (p .song); playing = isPlaying (p .transport .state); cursor = readAt frames j (p .transport); passes = 0 }
 unfolding movedOf
 moved-frame x p frames extent n j h lt = rw (step-frame (p .transport) frames extent n j h lt) refl
 
 -- and what it gives
 pub played-frame : (r : Recording) → Ends r → (q : Playhead) (t : Transport) (j : ℕ)
-    → playedOf r (record { playhead = q; playing = isPlaying (t .state); cursor = readAt (r .frames) j t }) ≡ pair (songShare r t (j * 2)) (songShare r t (j * 2 + 1))
+    → playedOf r (record { playhead = q; playing = isPlaying (t .state); cursor = readAt (r .frames) j t; passes = 0 }) ≡ pair (songShare r t (j * 2)) (songShare r t (j * 2 + 1))
 unfolding playedOf
 played-frame r ends q t j = go (isPlaying (t .state))
   where

@@ -1,5 +1,5 @@
 -- The core of a stage: the song, the master and the tail, frame by frame over sums of voices. Definitions only.
-use Prim.Native.Nat.{ℕ, zero, suc, _/_, _%_}
+use Prim.Native.Nat.{ℕ, zero, suc, _+_, _/_, _%_}
 use mathlib.Core.Path.{_≡_}
 use mathlib.Core.Bool.{true, cond}
 use lib.Dec.{eqb}
@@ -45,14 +45,23 @@ module _ (x : Settings) (s t : Recording) where
       let g : Ticked = tickOf (c .master) in
       withTail x (only t) (g .value) (c .fade .tail) (times (playedOf s (movedOf x (s .frames) (s .extent) (c .playhead))) (g .value))
 
+  -- how many times the playhead passes from the loop's end to its start in a frame
+  abbrev pub corePasses : Core → ℕ
+  corePasses c = movedOf x (s .frames) (s .extent) (c .playhead) .passes
+
   -- one frame over a sum
   abbrev pub coreMade : Core → Pair → Made
-  coreMade c sum = record { core = coreOn c; out = plus (coreGives c) sum }
+  coreMade c sum = record { core = coreOn c; out = plus (coreGives c) sum; passes = corePasses c }
 
   -- after n frames
   unfoldable pub coreAfter : ℕ → Core → Core
   coreAfter zero c = c
   coreAfter (suc n) c = coreOn (coreAfter n c)
+
+  -- the passes of n frames
+  unfoldable pub passesIn : ℕ → Core → ℕ
+  passesIn zero c = 0
+  passesIn (suc n) c = passesIn n c + corePasses (coreAfter n c)
 
   -- as a rule of a sweep: what the place's frame gives there, plus the sum that stands there
   abbrev pub coreAdds : Core → ℕ → Float → Float

@@ -11,14 +11,13 @@ use Rattle.transport.specs.Transport.{transportFits}
 use Rattle.bank.specs.declared.Bank.{Bank}
 use Rattle.bank.specs.Slots.{clipOf, extentOf}
 use Rattle.bank.specs.Recording.{View}
-use Rattle.oneshot.specs.declared.Pair.{Pair}
 use Rattle.stage.specs.declared.Settings.{Settings}
 use Rattle.stage.specs.declared.Stage.{Stage}
 use Rattle.stage.specs.Ready.{FrameReady}
-use Rattle.stage.specs.Machine.{Told, machineOf}
+use Rattle.stage.specs.Machine.{Told, FrameMade, machineOf}
 
 -- n frames of a stage, one by one
-unfoldable pub stretchOf : Settings → View → ℕ → Stage → Ran Stage QueueRecord Pair Told
+unfoldable pub stretchOf : Settings → View → ℕ → Stage → Ran Stage QueueRecord FrameMade Told
 stretchOf x view n s = run (machineOf x view) n (stand s [])
 
 -- at most so many can be made, into an output of so many samples

@@ -53,11 +53,12 @@ endOf extent (LoopRange.Range s e) = e .0
 abbrev pub Inside : ℕ → ℕ → ℕ → Type 0
 Inside frames c n = c < frames → c + n ≤ frames
 
--- a transport that plays neither wraps nor stops, and its position stays a 64-bit number
+-- a transport that plays neither wraps nor stops, its position stays a 64-bit number, and its laps are one
 pub record Steady (frames extent n : ℕ) (t : Transport) : Type 0 where
   pub end : isPlaying (t .state) ≡ true → t .position .0 + n < endOf extent (t .looped)
   pub low : isPlaying (t .state) ≡ true → t .position .0 + n < 2 ^ 64
   pub inside : isPlaying (t .state) ≡ true → Inside frames (t .cursor .0) n
+  pub laps : t .laps < 2 ^ 64
 
 -- a tail's weight does not land
 abbrev pub Fading : ℕ → ℕ → Tail → Type 0

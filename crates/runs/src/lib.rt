@@ -6,14 +6,14 @@ ghost use mathlib.Core.List.{_++_};
 ghost use lib.ListN.{length, drop};
 ghost use mathlib.Core.Bool.{true};
 ghost use Rattle.transport.specs.Transport.{isPlaying};
-ghost use Rattle.stage.specs.Machine.{outputOf};
+ghost use Rattle.stage.specs.Machine.{outputOf, passesOf};
 ghost use Rattle.bank.specs.Recording.{recordingOf, viewOf};
 ghost use Rattle.oneshot.specs.Mix.{sounding};
 ghost use Rattle.oneshot.specs.Sounding.{Each, Ready};
 ghost use Rattle.sweeps.specs.Over.{over};
 ghost use Rattle.sweeps.specs.Adds.{ticksOf};
 ghost use Rattle.runs.specs.Voices.{voiceBy, voicesBy, Lasts, LastsIn, Still, streamOf, voiceOn, sums};
-ghost use Rattle.runs.specs.Core.{coreMade, coreAfter, coreAdds, CoreReady};
+ghost use Rattle.runs.specs.Core.{coreMade, coreAfter, coreAdds, passesIn, CoreReady};
 ghost use Rattle.runs.specs.Run.{cursorBy, transportBy, tailBy, coreBy, endOf, Inside, Steady, Fading, Calm, partOf, songPart, overAdds, OverReady, slotOf};
 ghost use Rattle.runs.specs.Frames.{stretchOf, FramesReady};
 use bank::Bank;
@@ -294,6 +294,7 @@ fn transport_by(t: Transport, frames: u64, n: usize) -> Transport
             position: SongFrame(position),
             cursor: cursor,
             looped: looped,
+            laps: t.laps,
         };
     }
     t
@@ -425,16 +426,18 @@ struct Core {
     fade: Fade,
 }
 
-/// A core a frame on, and the frame.
+/// A core a frame on, the frame, and how many times the playhead passed from the loop's end to its start.
 struct Made {
     core: Core,
     out: Pair,
+    passes: u64,
 }
 
-/// A core so many frames on.
+/// A core so many frames on, and the passes made in them.
 struct Gone {
     core: Core,
     frames: usize,
+    passes: u64,
 }
 
 impl Core {
@@ -503,6 +506,7 @@ impl Core {
                 fade: next_fade,
             },
             out: out.plus(sum),
+            passes: moved.passes,
         }
     }
 
@@ -517,7 +521,7 @@ impl Core {
         most: usize,
     ) -> Gone
         requires { ⌜ CoreReady (length (now pool)) song clip self × (0 < most) × (most * 2 ≤ length (now out)) ⌝ }
-        ensures { λ r. ⌜ (0 < r .frames) × (r .frames ≤ most) × (r .core ≡ coreAfter settings (recordingOf (now (pool .entry)) song) (recordingOf (now (pool .entry)) clip) (r .frames) self) × (now (out .exit) ≡ over (coreAdds settings (recordingOf (now (pool .entry)) song) (recordingOf (now (pool .entry)) clip) self) 0 (r .frames * 2) (now (out .entry))) ⌝ }
+        ensures { λ r. ⌜ (0 < r .frames) × (r .frames ≤ most) × (r .core ≡ coreAfter settings (recordingOf (now (pool .entry)) song) (recordingOf (now (pool .entry)) clip) (r .frames) self) × (now (out .exit) ≡ over (coreAdds settings (recordingOf (now (pool .entry)) song) (recordingOf (now (pool .entry)) clip) self) 0 (r .frames * 2) (now (out .entry))) × (r .passes ≡ passesIn settings (recordingOf (now (pool .entry)) song) (recordingOf (now (pool .entry)) clip) (r .frames) self) ⌝ }
     {
         let ahead = self.ahead(song, clip, most);
         if ahead == 0 {
@@ -533,12 +537,14 @@ impl Core {
             return Gone {
                 core: next,
                 frames: 1,
+                passes: made.passes,
             };
         }
         let next = self.run(pool, song, clip, out, ahead);
         Gone {
             core: next,
             frames: ahead,
+            passes: 0,
         }
     }
 }
@@ -552,20 +558,26 @@ fn over_frames(
     clip: Clip,
     out: &mut [f32],
     frames: usize,
-) -> Core
+) -> Gone
     requires { ⌜ CoreReady (length (now pool)) song clip core × (frames * 2 ≤ length (now out)) ⌝ }
-    ensures { λ r. ⌜ (r ≡ coreAfter settings (recordingOf (now (pool .entry)) song) (recordingOf (now (pool .entry)) clip) frames core) × (now (out .exit) ≡ over (coreAdds settings (recordingOf (now (pool .entry)) song) (recordingOf (now (pool .entry)) clip) core) 0 (frames * 2) (now (out .entry))) ⌝ }
+    ensures { λ r. ⌜ (r ≡ record { core = coreAfter settings (recordingOf (now (pool .entry)) song) (recordingOf (now (pool .entry)) clip) frames core; frames = frames; passes = passesIn settings (recordingOf (now (pool .entry)) song) (recordingOf (now (pool .entry)) clip) frames core }) × (now (out .exit) ≡ over (coreAdds settings (recordingOf (now (pool .entry)) song) (recordingOf (now (pool .entry)) clip) core) 0 (frames * 2) (now (out .entry))) ⌝ }
 {
     let mut core = core;
+    let mut passes: u64 = 0;
     let mut done: usize = 0;
     while done < frames {
         let at = done * 2;
         let gone = core.go_on(settings, pool, song, clip, &mut out[at..], frames - done);
         let more = gone.frames;
         core = gone.core;
+        passes = passes + gone.passes;
         done = done + more;
     }
-    core
+    Gone {
+        core: core,
+        frames: frames,
+        passes: passes,
+    }
 }
 
 // ---- all of it
@@ -580,10 +592,11 @@ fn tail_slot(tail: Tail, song: Handle) -> u32
     }
 }
 
-/// A stage so many frames on.
+/// A stage so many frames on, and the passes made in them.
 pub struct Further {
     pub stage: Stage,
     pub frames: usize,
+    pub passes: u64,
 }
 
 /// Some frames of a stage: all of them without a voice, else those before one ends, and where one ends that frame.
@@ -596,7 +609,7 @@ pub fn frames_on(
     most: usize,
 ) -> Further
     requires { ⌜ FramesReady (now pool) bank most (length (now out)) stage ⌝ }
-    ensures { λ r. ⌜ (0 < r .frames) × (r .frames ≤ most) × (r .stage ≡ stretchOf settings (viewOf (now (pool .entry)) bank) (r .frames) stage .at .core) × (now (out .exit) ≡ outputOf (stretchOf settings (viewOf (now (pool .entry)) bank) (r .frames) stage .made) ++ drop (r .frames * 2) (now (out .entry))) ⌝ }
+    ensures { λ r. ⌜ (0 < r .frames) × (r .frames ≤ most) × (r .stage ≡ stretchOf settings (viewOf (now (pool .entry)) bank) (r .frames) stage .at .core) × (now (out .exit) ≡ outputOf (stretchOf settings (viewOf (now (pool .entry)) bank) (r .frames) stage .made) ++ drop (r .frames * 2) (now (out .entry))) × (r .passes ≡ passesOf (stretchOf settings (viewOf (now (pool .entry)) bank) (r .frames) stage .made)) ⌝ }
 {
     let playhead = stage.playhead;
     let handle = playhead.song;
@@ -618,7 +631,8 @@ pub fn frames_on(
     if voices.count == 0 {
         let places = most * 2;
         sweeps::clear(&mut out[..], places);
-        let next = over_frames(core, settings, pool, song, clip, out, most);
+        let gone = over_frames(core, settings, pool, song, clip, out, most);
+        let next = gone.core;
         let next_playhead = next.playhead;
         let next_master = next.master;
         let next_fade = next.fade;
@@ -635,6 +649,7 @@ pub fn frames_on(
                 counters: counters,
             },
             frames: most,
+            passes: gone.passes,
         };
     }
     let ahead = voices_ahead(voices, pool, bank, most);
@@ -647,10 +662,12 @@ pub fn frames_on(
         return Further {
             stage: next,
             frames: 1,
+            passes: made.passes,
         };
     }
     let next_voices = mix_on(voices, pool, bank, &mut out[..], ahead);
-    let next = over_frames(core, settings, pool, song, clip, out, ahead);
+    let gone = over_frames(core, settings, pool, song, clip, out, ahead);
+    let next = gone.core;
     let next_playhead = next.playhead;
     let next_master = next.master;
     let next_fade = next.fade;
@@ -667,5 +684,6 @@ pub fn frames_on(
             counters: counters,
         },
         frames: ahead,
+        passes: gone.passes,
     }
 }

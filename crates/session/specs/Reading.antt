@@ -26,6 +26,10 @@ transportStateOf s = s .stage .playhead .transport .state
 abbrev pub loopRangeOf : Session → LoopRange
 loopRangeOf s = s .stage .playhead .transport .looped
 
+-- the laps since the loop was set
+abbrev pub lapsOf : Session → ℕ
+lapsOf s = s .stage .playhead .transport .laps
+
 -- the master gain: the value that it is heading for
 abbrev pub masterGainOf : Session → Float
 masterGainOf s = s .stage .sound .master .target

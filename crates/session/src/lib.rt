@@ -19,7 +19,7 @@ ghost use Rattle.stage.specs.Sound.{masterFrames};
 ghost use Rattle.session.specs.Refusal.{numberOf};
 ghost use Rattle.session.specs.Session.{extentNow, capturedNow, turnedAway};
 ghost use Rattle.session.specs.WellFormed.{settingsOk, storesOk, voiceOk, wellFormed, weighOnly};
-ghost use Rattle.session.specs.Reading.{clockOf, positionOf, transportStateOf, loopRangeOf, masterGainOf, songOf, queueDepthOf, isLiveOf};
+ghost use Rattle.session.specs.Reading.{clockOf, positionOf, transportStateOf, loopRangeOf, lapsOf, masterGainOf, songOf, queueDepthOf, isLiveOf};
 use bank::Bank;
 use bank::Clip;
 use counts::ClockFrame;
@@ -101,6 +101,13 @@ impl Session {
         let playhead = stage.playhead;
         let transport = playhead.transport;
         transport.looped
+    }
+
+    /// The laps since the loop was set.
+    pub fn laps(self) -> u64
+        ensures { λ r. ⌜ r ≡ lapsOf self ⌝ }
+    {
+        self.stage.playhead.transport.laps
     }
 
     /// The master gain: the value that it is heading for.

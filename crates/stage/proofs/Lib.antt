@@ -3,3 +3,4 @@ pub mod Clock
 pub mod Clamped
 pub mod Keeps
 pub mod Weight
+pub mod Passes

@@ -51,11 +51,13 @@ pub struct Playhead {
     pub song: Handle,
 }
 
-/// A playhead a frame on, whether the song plays in that frame, and the cursor at which it is read.
+/// A playhead a frame on, whether the song plays in that frame, the cursor at which it is read, and how many times it
+/// passed from the loop's end to its start.
 pub struct Moved {
     pub playhead: Playhead,
     pub playing: bool,
     pub cursor: SongFrame,
+    pub passes: u64,
 }
 
 impl Playhead {
@@ -73,6 +75,7 @@ impl Playhead {
             playhead: Playhead { transport, song },
             playing: s.playing,
             cursor: cursor,
+            passes: s.passes,
         }
     }
 
@@ -118,6 +121,7 @@ impl Playhead {
                     position: SongFrame(0),
                     cursor: SongFrame(0),
                     looped: LoopRange::Off,
+                    laps: 0,
                 },
                 song: h,
             },
@@ -385,6 +389,7 @@ pub struct Stage {
 pub struct Framed {
     pub stage: Stage,
     pub out: Pair,
+    pub passes: u64,
 }
 
 impl Stage {
@@ -413,6 +418,7 @@ impl Stage {
                 counters: counters,
             },
             out: out,
+            passes: moved.passes,
         }
     }
 

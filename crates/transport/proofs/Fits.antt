@@ -17,7 +17,7 @@ use Rattle.transport.specs.Transport.{isPlaying, transport, movedTo, wra
 use Rattle.transport.proofs.Within.{start-first, end-fits, lands}
 
 -- a song at 0 without a loop fits any length
-pub fresh-fits : (extent : ℕ) (s : TransportState) → transportFits extent (transport s 0 0 Off) ≡ true
+pub fresh-fits : (extent : ℕ) (s : TransportState) → transportFits extent (transport s 0 0 Off 0) ≡ true
 fresh-fits extent s = and-true (le-leb 0 extent (omega arith)) refl
 
 module _ (extent : ℕ) (t : Transport) (h : transportFits extent t ≡ true) where
@@ -70,16 +70,16 @@ wrap-fits extent t h =
     cond-both (λ (x : Transport). transportFits extent x ≡ true) (isPlaying (t .state)) (wrapIn (t .looped) t) t (wrap-in extent t (t .looped) refl h) h
 
 -- rule b keeps it, over the loop and where the position has risen to p
-land-in : (extent p c : ℕ) (s : TransportState) (l : LoopRange) → loopFits extent l ≡ true
-    → transportFits extent (landIn extent l (transport s p c l)) ≡ true
-land-in extent p c s Off h = go (two-ways (leb extent p))
+land-in : (extent p c n : ℕ) (s : TransportState) (l : LoopRange) → loopFits extent l ≡ true
+    → transportFits extent (landIn extent l (transport s p c l n)) ≡ true
+land-in extent p c n s Off h = go (two-ways (leb extent p))
   where
-    go : (leb extent p ≡ true) ⊎ (leb extent p ≡ false) → transportFits extent (landIn extent Off (transport s p c Off)) ≡ true
+    go : (leb extent p ≡ true) ⊎ (leb extent p ≡ false) → transportFits extent (landIn extent Off (transport s p c Off n)) ≡ true
     go (inl e) = rw e (and-true (le-leb extent extent (omega arith)) refl)
     go (inr e) = rw e (and-true (le-leb p extent (omega (arith, leb-false extent p e))) refl)
-land-in extent p c s (Range a b) h = go (two-ways (leb (b .0) p))
+land-in extent p c n s (Range a b) h = go (two-ways (leb (b .0) p))
   where
-    go : (leb (b .0) p ≡ true) ⊎ (leb (b .0) p ≡ false) → transportFits extent (landIn extent (Range a b) (transport s p c (Range a b))) ≡ true
+    go : (leb (b .0) p ≡ true) ⊎ (leb (b .0) p ≡ false) → transportFits extent (landIn extent (Range a b) (transport s p c (Range a b) n)) ≡ true
     go (inl e) = rw e (and-true (le-leb (a .0) extent (omega (arith, start-first extent a b h, end-fits extent a b h))) h)
     go (inr e) = rw e (and-true (le-leb p extent (omega (arith, leb-false (b .0) p e, end-fits extent a b h))) h)
 
@@ -90,7 +90,7 @@ advance-fits frames extent t h =
     let c : ℕ = cursorOn frames (t .cursor .0) in
     cond-both (λ (x : Transport). transportFits extent x ≡ true) (isPlaying (t .state))
     (landIn extent (t .looped) (movedTo t (t .position .0 + 1) c)) t
-    (land-in extent (t .position .0 + 1) c (t .state) (t .looped) (loops extent t h)) h
+    (land-in extent (t .position .0 + 1) c (t .laps) (t .state) (t .looped) (loops extent t h)) h
 
 -- a frame keeps it
 pub step-fits : (frames extent : ℕ) (t : Transport) → transportFits extent t ≡ true → transportFits extent (stepOf frames extent t .transport) ≡ true

@@ -1,5 +1,6 @@
 pub mod Fits
 pub mod Held
 pub mod Moves
+pub mod Passes
 pub mod Numbers
 mod Within

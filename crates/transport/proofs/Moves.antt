@@ -2,7 +2,8 @@
 use mathlib.Core.Path.{_≡_, refl, subst}
 use mathlib.Core.Bool.{true, false}
 use mathlib.Core.Logic.{_⊎_, inl, inr}
-use Prim.Native.Nat.{ℕ, _+_, _≤_, _<_}
+use Prim.Native.Nat.{ℕ, _+_, _-_, _^_, _≤_, _<_, min}
+use native.Mathlib.Omega.{arith}
 use borrow.Author.Tests.{le-leb, lt-leb}
 use lib.Dec.{leb, ltb}
 use Rattle.counts.proofs.Truth.{cond-both}
@@ -11,24 +12,24 @@ use Rattle.transport.specs.declared.TransportState.the-variants.{Stopped
 use Rattle.transport.specs.declared.LoopRange.{LoopRange}
 use Rattle.transport.specs.declared.LoopRange.the-variants.{Off, Range}
 use Rattle.transport.specs.declared.Transport.{Transport}
-use Rattle.transport.specs.Transport.{isPlaying, transport, movedTo, wrapTo, wrapIn, wrapOf, cursorOn, landIn, advanceOf, stepOf}
+use Rattle.transport.specs.Transport.{isPlaying, transport, movedTo, wrapTo, wrapIn, wrapOf, cursorOn, landIn, advanceOf, isPast, comesRound, stepOf}
 
 -- if not Playing nothing moves
-pub rests : (frames extent : ℕ) (t : Transport) → isPlaying (t .state) ≡ false → stepOf frames extent t ≡ record { transport = t; playing = false; cursor = t .cursor }
-unfolding stepOf advanceOf wrapOf
-rests frames extent t e = simp e
+pub rests : (frames extent : ℕ) (t : Transport) → t .laps < 2 ^ 64 → isPlaying (t .state) ≡ false → stepOf frames extent t ≡ record { transport = t; playing = false; cursor = t .cursor; passes = 0 }
+unfolding stepOf advanceOf wrapOf isPast comesRound
+rests frames extent t l e = let h : min (t .laps + 0) (2 ^ 64 - 1) ≡ t .laps = omega arith in simp (e, h)
 
 -- Playing without a loop, short of the length: the position rises by 1
-pub rises : (frames extent p c : ℕ) → p + 1 < extent
-    → stepOf frames extent (transport Playing p c Off) ≡ record { transport = transport Playing (p + 1) (cursorOn frames c) Off; playing = true; cursor = record { 0 = c } }
-unfolding stepOf advanceOf wrapOf
-rises frames extent p c h = simp (lt-leb extent (p + 1) h)
+pub rises : (frames extent p c n : ℕ) → n < 2 ^ 64 → p + 1 < extent
+    → stepOf frames extent (transport Playing p c Off n) ≡ record { transport = transport Playing (p + 1) (cursorOn frames c) Off n; playing = true; cursor = record { 0 = c }; passes = 0 }
+unfolding stepOf advanceOf wrapOf isPast comesRound
+rises frames extent p c n l h = let k : min (n + 0) (2 ^ 64 - 1) ≡ n = omega arith in simp (lt-leb extent (p + 1) h, k)
 
 -- Playing without a loop, at the length: there it stops
-pub ends : (frames extent p c : ℕ) → extent ≤ p + 1
-    → stepOf frames extent (transport Playing p c Off) ≡ record { transport = transport Stopped extent (cursorOn frames c) Off; playing = true; cursor = record { 0 = c } }
-unfolding stepOf advanceOf wrapOf
-ends frames extent p c h = simp (le-leb extent (p + 1) h)
+pub ends : (frames extent p c n : ℕ) → n < 2 ^ 64 → extent ≤ p + 1
+    → stepOf frames extent (transport Playing p c Off n) ≡ record { transport = transport Stopped extent (cursorOn frames c) Off n; playing = true; cursor = record { 0 = c }; passes = 0 }
+unfolding stepOf advanceOf wrapOf isPast comesRound
+ends frames extent p c n l h = let k : min (n + 0) (2 ^ 64 - 1) ≡ n = omega arith in simp (le-leb extent (p + 1) h, k)
 
 -- the loop starts there
 abbrev pub StartsAt : LoopRange → ℕ → Type 0
@@ -74,11 +75,11 @@ on-follows : (frames c : ℕ) (l : LoopRange) → Follows l c (cursorOn frames c
 unfolding cursorOn
 on-follows frames c l = cond-both (Follows l c) (ltb c frames) (c + 1) c (inr (inl refl)) (inl refl)
 
-land-follows : (extent p c d : ℕ) (s : TransportState) (l : LoopRange) → Follows l c d → Follows l c (landIn extent l (transport s p d l) .cursor .0)
-land-follows extent p c d s Off h =
-    cond-both (λ (x : Transport). Follows Off c (x .cursor .0)) (leb extent p) (transport Stopped extent d Off) (transport s p d Off) h h
-land-follows extent p c d s (Range a b) h =
-    cond-both (λ (x : Transport). Follows (Range a b) c (x .cursor .0)) (leb (b .0) p) (transport s (a .0) (a .0) (Range a b)) (transport s p d (Range a b)) (inr (inr refl)) h
+land-follows : (extent p c d n : ℕ) (s : TransportState) (l : LoopRange) → Follows l c d → Follows l c (landIn extent l (transport s p d l n) .cursor .0)
+land-follows extent p c d n s Off h =
+    cond-both (λ (x : Transport). Follows Off c (x .cursor .0)) (leb extent p) (transport Stopped extent d Off n) (transport s p d Off n) h h
+land-follows extent p c d n s (Range a b) h =
+    cond-both (λ (x : Transport). Follows (Range a b) c (x .cursor .0)) (leb (b .0) p) (transport s (a .0) (a .0) (Range a b) n) (transport s p d (Range a b) n) (inr (inr refl)) h
 
 advance-follows : (frames extent : ℕ) (w : Transport) → Follows (w .looped) (w .cursor .0) (advanceOf frames extent w .cursor .0)
 unfolding advanceOf
@@ -87,7 +88,7 @@ advance-follows frames extent w =
     let p : ℕ = w .position .0 + 1 in
     let d : ℕ = cursorOn frames c in
     cond-both (λ (x : Transport). Follows (w .looped) c (x .cursor .0)) (isPlaying (w .state)) (landIn extent (w .looped) (movedTo w p d)) w
-    (land-follows extent p c d (w .state) (w .looped) (on-follows frames c (w .looped))) (inl refl)
+    (land-follows extent p c d (w .laps) (w .state) (w .looped) (on-follows frames c (w .looped))) (inl refl)
 
 -- after the frame the cursor is where the song was read, one on, or at the loop's start
 pub moves-on : (frames extent : ℕ) (t : Transport) → Follows (t .looped) (stepOf frames extent t .cursor .0) (stepOf frames extent t .transport .cursor .0)

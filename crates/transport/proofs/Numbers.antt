@@ -5,7 +5,7 @@ use Rattle.transport.specs.declared.LoopRange.{LoopRange}
 use Rattle.transport.specs.declared.LoopRange.the-variants.{Off, Range}
 use Rattle.transport.specs.declared.TransportState.{TransportState}
 use Rattle.transport.specs.declared.TransportState.the-variants.{Playing}
-use Rattle.transport.specs.Transport.{transport, wrapOf, advanceOf}
+use Rattle.transport.specs.Transport.{transport, wrapOf, advanceOf, isPast, comesRound, stepOf}
 use Rattle.transport.specs.Deadline.{distanceTo, songDeadlineOf}
 
 abbrev range : ℕ → ℕ → LoopRange
@@ -13,7 +13,7 @@ range s e = Range (record { 0 = s }) (record { 0 = e })
 
 -- the clock frame of song frame t at clock 500 and position p, in any state and with any cursor
 abbrev dueAt : TransportState → ℕ → ℕ → LoopRange → ℕ → ℕ
-dueAt s c p l t = songDeadlineOf (record { 0 = 500 }) (transport s p c l) (record { 0 = t }) .0
+dueAt s c p l t = songDeadlineOf (record { 0 = 500 }) (transport s p c l 0) (record { 0 = t }) .0
 
 -- clock 500, position 100: song frame 130 gives 530; 90 gives 500; 90 with loop 80..120 gives 530; 79 with it gives 500. At position 120, 90 gives 500.
 pub deadlines :
@@ -28,13 +28,22 @@ deadlines s c = (refl, refl, refl, refl, refl)
 
 -- loop 10..14: position 27 goes to 11, cursor 10; position 14 goes to 10 (rule a)
 pub wraps :
-    (c : ℕ)
-    → (wrapOf (transport Playing 27 c (range 10 14)) ≡ transport Playing 11 10 (range 10 14))
-    × (wrapOf (transport Playing 14 c (range 10 14)) ≡ transport Playing 10 10 (range 10 14))
+    (c n : ℕ)
+    → (wrapOf (transport Playing 27 c (range 10 14) n) ≡ transport Playing 11 10 (range 10 14) n)
+    × (wrapOf (transport Playing 14 c (range 10 14) n) ≡ transport Playing 10 10 (range 10 14) n)
 unfolding wrapOf
-wraps c = (refl, refl)
+wraps c n = (refl, refl)
 
 -- loop 10..14: from position 13 the next frame is at 10, position and cursor (rule b)
-pub comes-round : (frames extent c : ℕ) → advanceOf frames extent (transport Playing 13 c (range 10 14)) ≡ transport Playing 10 10 (range 10 14)
+pub comes-round : (frames extent c n : ℕ) → advanceOf frames extent (transport Playing 13 c (range 10 14) n) ≡ transport Playing 10 10 (range 10 14) n
 unfolding advanceOf
-comes-round frames extent c = refl
+comes-round frames extent c n = refl
+
+-- how many times the first frame passes from the end of loop 10..14 to its start, from position p
+abbrev passesAt : ℕ → ℕ
+passesAt p = stepOf 20 20 (transport Playing p p (range 10 14) 0) .passes
+
+-- from 12 not at all, from 13 once (rule b), from 14 once (rule a), from 17 twice: rule a takes it to 13, and rule b to 10
+pub passes : (passesAt 12 ≡ 0) × (passesAt 13 ≡ 1) × (passesAt 14 ≡ 1) × (passesAt 17 ≡ 2)
+unfolding stepOf wrapOf advanceOf isPast comesRound
+passes = (refl, refl, refl, refl)

@@ -15,7 +15,7 @@ use Rattle.runs.specs.Voices.{sums}
 use Rattle.runs.specs.Core.{CoreReady, coreOf}
 use Rattle.runs.specs.Run.{slotOf}
 use Rattle.runs.proofs.Frames.{Tails, stageAt}
-use Rattle.runs.proofs.Runs.{run-stage, run-output, silent-stage, silent-output, frame-stage, frame-output}
+use Rattle.runs.proofs.Runs.{run-stage, run-output, run-passes, silent-stage, silent-output, silent-passes, frame-stage, frame-output, frame-passes}
 use Rattle.runs.proofs.Clips.{clip-at, tail-slot, tail-lies, tail-sounds}
 use borrow.Author.Needs.{needs}
 use Rattle.runs.proofs.frames_on.Statement.{statement}
@@ -95,27 +95,28 @@ over-frames-requires c κs =
 
 add-clock : tie.Need-add-clock
 add-clock c =
-    let s = c .before .before .before .before .before .before .before .before .before .before .before .before .before .before .before .before .before .before .before .before .before .before .before .before .before .before .before in
+    let s = c .before .before .before .before .before .before .before .before .before .before .before .before .before .before .before .before .before .before .before .before .before .before .before .before .before .before .before .before in
     omega (arith, s .pre .clock)
 
 same-length : tie.Need-same-length
 same-length c =
-    let s = c .before .before .before .before .before .before .before .before .before .before .before .before .before .before .before .before .before .before .before .before .before .before .before .before .before .before .before in
-    ap length (c .before .before .before .before .before .before .over-frames .ensures .1) ∙ length-over _ 0 (s .args .most * 2) _ ∙ ap length (c .before .before .before .before .before .before .before .before .before .before .clear .ensures) ∙ length-over cleared 0 (s .args .most * 2) (s .args .out .now)
+    let s = c .before .before .before .before .before .before .before .before .before .before .before .before .before .before .before .before .before .before .before .before .before .before .before .before .before .before .before .before in
+    ap length (c .before .before .before .before .before .before .before .over-frames .ensures .1) ∙ length-over _ 0 (s .args .most * 2) _ ∙ ap length (c .before .before .before .before .before .before .before .before .before .before .before .clear .ensures) ∙ length-over cleared 0 (s .args .most * 2) (s .args .out .now)
 
 returns : tie.Need-returns
 unfolding stageAt viewOf
 returns c =
-    let s = c .before .before .before .before .before .before .before .before .before .before .before .before .before .before .before .before .before .before .before .before .before .before .before .before .before .before .before in
-    let o = c .before .before .before .before .before .before .over-frames .ensures in
-    let k = c .before .before .before .before .before .before .before .before .before .before .before .before .before .before .before .before .before .before .tail-slot .ensures in
-    let z = c .before .before .before .before .before .before .before .before .before .before .before .before .if1 .taken in
+    let s = c .before .before .before .before .before .before .before .before .before .before .before .before .before .before .before .before .before .before .before .before .before .before .before .before .before .before .before .before in
+    let o = c .before .before .before .before .before .before .before .over-frames .ensures in
+    let k = c .before .before .before .before .before .before .before .before .before .before .before .before .before .before .before .before .before .before .before .tail-slot .ensures in
+    let z = c .before .before .before .before .before .before .before .before .before .before .before .before .before .if1 .taken in
     let view = viewOf (s .args .pool .now) (s .args .t4) in
     let t = recordingOf (s .args .pool .now) (tailIn s) in (
       s .pre .some,
       omega arith,
       rw (o .0, k, ← song s) (silent-stage (s .args .settings) view t (s .args .stage) (s .args .most) (tails s) z),
-      rw (o .1, c .before .before .before .before .before .before .before .before .before .before .clear .ensures, k, ← song s) (silent-output (s .args .settings) view t (s .args .stage) (s .args .most) (tails s) z (s .args .out .now) (s .pre .room)),
+      rw (o .1, c .before .before .before .before .before .before .before .before .before .before .before .clear .ensures, k, ← song s) (silent-output (s .args .settings) view t (s .args .stage) (s .args .most) (tails s) z (s .args .out .now) (s .pre .room)),
+      rw (o .0, k, ← song s) (silent-passes (s .args .settings) view t (s .args .stage) (s .args .most) (tails s) z),
     )
 
 voices-ahead-requires : tie.Need-voices-ahead-requires
@@ -146,6 +147,7 @@ returns-2 c =
       omega (arith, s .pre .some),
       rw f (frame-stage (s .args .settings) view (s .args .stage)),
       rw f (frame-output (s .args .settings) view (s .args .stage) (s .args .out .now) (omega (arith, s .pre .some, s .pre .room))),
+      rw f (frame-passes (s .args .settings) view (s .args .stage)),
     )
 
 mix-on-requires : tie.Need-mix-on-requires
@@ -161,28 +163,29 @@ over-frames-requires-2 c κs =
 
 add-clock-2 : tie.Need-add-clock-2
 add-clock-2 c =
-    let s = c .before .before .before .before .before .before .before .before .before .before .before .before .before .before .before .before .before .before .before .before .before .before .before .before .before .before .before .before .before in
-    omega (arith, c .before .before .before .before .before .before .before .before .before .before .before .before .before .voices-ahead .ensures .0, s .pre .clock)
+    let s = c .before .before .before .before .before .before .before .before .before .before .before .before .before .before .before .before .before .before .before .before .before .before .before .before .before .before .before .before .before .before in
+    omega (arith, c .before .before .before .before .before .before .before .before .before .before .before .before .before .before .voices-ahead .ensures .0, s .pre .clock)
 
 same-length-3 : tie.Need-same-length-3
 same-length-3 c =
-    let s = c .before .before .before .before .before .before .before .before .before .before .before .before .before .before .before .before .before .before .before .before .before .before .before .before .before .before .before .before .before in
-    let v = c .before .before .before .before .before .before .before .before .before .before .before .before .before .voices-ahead .result in ap length (c .before .before .before .before .before .before .over-frames2 .ensures .1) ∙ length-over _ 0 (v * 2) _ ∙ ap length (c .before .before .before .before .before .before .before .before .before .before .mix-on .ensures .1) ∙ sums-length s v
+    let s = c .before .before .before .before .before .before .before .before .before .before .before .before .before .before .before .before .before .before .before .before .before .before .before .before .before .before .before .before .before .before in
+    let v = c .before .before .before .before .before .before .before .before .before .before .before .before .before .before .voices-ahead .result in ap length (c .before .before .before .before .before .before .before .over-frames2 .ensures .1) ∙ length-over _ 0 (v * 2) _ ∙ ap length (c .before .before .before .before .before .before .before .before .before .before .before .mix-on .ensures .1) ∙ sums-length s v
 
 returns-3 : tie.Need-returns-3
 unfolding stageAt viewOf
 returns-3 c =
-    let s = c .before .before .before .before .before .before .before .before .before .before .before .before .before .before .before .before .before .before .before .before .before .before .before .before .before .before .before .before .before in
-    let a = c .before .before .before .before .before .before .before .before .before .before .before .before .before .voices-ahead .ensures in
-    let m = c .before .before .before .before .before .before .before .before .before .before .mix-on .ensures in
-    let o = c .before .before .before .before .before .before .over-frames2 .ensures in
-    let k = c .before .before .before .before .before .before .before .before .before .before .before .before .before .before .before .before .before .before .before .before .tail-slot .ensures in
+    let s = c .before .before .before .before .before .before .before .before .before .before .before .before .before .before .before .before .before .before .before .before .before .before .before .before .before .before .before .before .before .before in
+    let a = c .before .before .before .before .before .before .before .before .before .before .before .before .before .before .voices-ahead .ensures in
+    let m = c .before .before .before .before .before .before .before .before .before .before .before .mix-on .ensures in
+    let o = c .before .before .before .before .before .before .before .over-frames2 .ensures in
+    let k = c .before .before .before .before .before .before .before .before .before .before .before .before .before .before .before .before .before .before .before .before .before .tail-slot .ensures in
     let view = viewOf (s .args .pool .now) (s .args .t4) in
     let t = recordingOf (s .args .pool .now) (tailIn s) in (
-      omega (arith, c .before .before .before .before .before .before .before .before .before .before .before .before .if2 .left),
+      omega (arith, c .before .before .before .before .before .before .before .before .before .before .before .before .before .if2 .left),
       a .0,
       rw (o .0, m .0, k, ← song s) (run-stage (s .args .settings) view t (s .args .stage) _ (tails s) (a .1) (sixteen s)),
       rw (o .1, m .1, k, ← song s) (run-output (s .args .settings) view t (s .args .stage) _ (tails s) (a .1) (sixteen s) (s .args .out .now) (omega (arith, a .0, s .pre .room))),
+      rw (o .0, k, ← song s) (run-passes (s .args .settings) view t (s .args .stage) _ (tails s) (a .1) (sixteen s)),
     )
 
 pub frames-on-spec : {M : Type 1} → statement M

@@ -24,12 +24,12 @@ returns c =
     let s = c .before .before .before .before .before .before in
     let p = c .position-ahead .ensures in
     let q = c .before .before .cursor-ahead .ensures in
-    (omega (arith, p .0, q .0), λ h. record { end = λ e. rw (← c .before .end-of .ensures) (p .1 h); low = λ e. omega (arith, p .1 h); inside = λ e. inside-fewer _ _ _ _ (q .1) (p .0) })
+    (omega (arith, p .0, q .0), λ h. record { end = λ e. rw (← c .before .end-of .ensures) (p .1 h); low = λ e. omega (arith, p .1 h); inside = λ e. inside-fewer _ _ _ _ (q .1) (p .0); laps = omega (arith, s .good) })
 
 returns-2 : tie.Need-returns-2
 returns-2 c =
     let e = sym (c .before .is-playing .ensures) ∙ c .if1 .left in
-    (omega arith, λ h. record { end = λ q. absurd (false≢true (sym e ∙ q)); low = λ q. absurd (false≢true (sym e ∙ q)); inside = λ q. absurd (false≢true (sym e ∙ q)) })
+    (omega arith, λ h. record { end = λ q. absurd (false≢true (sym e ∙ q)); low = λ q. absurd (false≢true (sym e ∙ q)); inside = λ q. absurd (false≢true (sym e ∙ q)); laps = omega (arith, c .before .before .good) })
 
 pub song-ahead-spec : {M : Type 1} → statement M
 song-ahead-spec =

@@ -2,8 +2,8 @@
 use mathlib.Core.Path.{sym, ap, _∙_}
 use native.Mathlib.Omega.{arith}
 use lib.ListN.{length-set}
-use Rattle.runs.proofs.Cores.{after-one, adds-one}
-use Rattle.runs.proofs.Calm.{calm-after, calm-over}
+use Rattle.runs.proofs.Cores.{after-one, passes-one, adds-one}
+use Rattle.runs.proofs.Calm.{calm-after, calm-passes, calm-over}
 use borrow.Author.Needs.{needs}
 use Rattle.runs.proofs.Core.go_on.Statement.{statement}
 use Rattle.runs.proofs.Core.go_on.Tie as tie
@@ -33,7 +33,7 @@ returns : tie.Need-returns
 returns c =
     let s = c .before .before .before .before .before .before .before .before .before in
     let f = c .before .before .frame .ensures in
-    (omega arith, omega (arith, s .pre .1), ap (λ m. m .core) f ∙ sym (after-one _ _ _ _), rw f (sym (adds-one _ _ _ _ _)))
+    (omega arith, omega (arith, s .pre .1), ap (λ m. m .core) f ∙ sym (after-one _ _ _ _), rw f (sym (adds-one _ _ _ _ _)), ap (λ m. m .passes) f ∙ sym (passes-one _ _ _ _))
 
 run-requires : tie.Need-run-requires
 run-requires c κs =
@@ -55,6 +55,7 @@ returns-2 c =
       a .0,
       r .0 ∙ sym (calm-after (s .args .pool .now) (s .args .settings) (s .args .song) (s .args .clip) (s .args .self) _ h _ (omega arith)),
       r .1 ∙ calm-over (s .args .pool .now) (s .args .settings) (s .args .song) (s .args .clip) (s .args .self) _ h _,
+      sym (calm-passes (s .args .pool .now) (s .args .settings) (s .args .song) (s .args .clip) (s .args .self) _ h _ (omega arith)),
     )
 
 pub go-on-spec : {M : Type 1} → statement M
