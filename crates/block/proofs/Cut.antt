@@ -17,12 +17,13 @@ use Rattle.timeline.specs.Queue.{queue}
 use Rattle.timeline.proofs.Queue.{length-queue}
 use Rattle.bank.specs.Sample.{framesOf, isOdd}
 use Rattle.bank.specs.Recording.{viewOf}
-use Rattle.oneshot.specs.declared.Pair.{Pair}
 use Rattle.stage.specs.declared.Stage.{Stage}
-use Rattle.stage.specs.Machine.{Told, machineOf}
+use Rattle.stage.specs.Machine.{Told, FrameMade, machineOf}
 use Rattle.stage.proofs.Clock.{clocked}
+use Rattle.stage.proofs.Passes.{passes-append}
 use Rattle.session.specs.declared.Session.{Session}
-use Rattle.block.specs.Block.{ranOf, blockDone, blockOf, blocksOf, joined}
+use Rattle.block.specs.declared.BlockAnswer.{BlockAnswer}
+use Rattle.block.specs.Block.{blockAnswered, ranOf, blockDone, blockOf, reported, blocksOf, joined}
 use Rattle.block.proofs.Weigh.{Accepted, block-done}
 use Rattle.block.proofs.Kept.{block-came, block-keeps}
 use Rattle.block.proofs.Queue.{queue-ran}
@@ -37,18 +38,23 @@ module _ (s : Session) (q : List ℕ) (pool : List Float) where
     pub ran-cut : ranOf s q pool (a + b) ≡ after (ranOf s q pool a) (ranOf (leftBy a) q pool b)
     unfolding ranOf
     ran-cut =
-        let m : Machine Stage QueueRecord Pair Told = machineOf (s .settings) (viewOf pool (s .bank)) in
+        let m : Machine Stage QueueRecord FrameMade Told = machineOf (s .settings) (viewOf pool (s .bank)) in
         let x : At Stage QueueRecord = stand (s .stage) (queue q (s .queued)) in
         cut m a b x
         ∙ ap (λ (l : List QueueRecord). after (block m a x) (block m b (stand (block m a x .at .core) l))) (sym (queue-ran s q pool a))
 
-    -- and so are what they leave and their samples, joined
+    -- and so are what they leave, their passes added up and their samples joined
     pub done-cut : blockDone s (ranOf s q pool (a + b))
-        ≡ (blockDone (leftBy a) (ranOf (leftBy a) q pool b) .0, blockDone s (ranOf s q pool a) .1 ++ blockDone (leftBy a) (ranOf (leftBy a) q pool b) .1)
+        ≡ (
+          blockAnswered
+              (BlockAnswer.Done (reported (blockDone s (ranOf s q pool a) .0 .answer) + reported (blockDone (leftBy a) (ranOf (leftBy a) q pool b) .0 .answer)))
+              (blockDone (leftBy a) (ranOf (leftBy a) q pool b) .0 .session),
+          blockDone s (ranOf s q pool a) .1 ++ blockDone (leftBy a) (ranOf (leftBy a) q pool b) .1,
+        )
     done-cut =
-        let l : List Pair = ranOf s q pool a .made in
-        let k : List Pair = ranOf (leftBy a) q pool b .made in
-        rw (ran-cut, samples-append _ _ l k)
+        let l : List FrameMade = ranOf s q pool a .made in
+        let k : List FrameMade = ranOf (leftBy a) q pool b .made in
+        rw (ran-cut, samples-append _ _ l k, passes-append l k)
 
 -- ---- at the call
 
@@ -77,7 +83,7 @@ module _ (s : Session) (q c : List ℕ) (pool x y : List Float) (places : length
   pub rest-accepted : Accepted (blockOf s q c pool x .0 .session) q c pool y
   unfolding ranOf
   rest-accepted =
-      let m : Machine Stage QueueRecord Pair Told = machineOf (s .settings) (viewOf pool (s .bank)) in
+      let m : Machine Stage QueueRecord FrameMade Told = machineOf (s .settings) (viewOf pool (s .bank)) in
       let clock = block-clock m (clocked (s .settings) (viewOf pool (s .bank))) (framesOf x) (stand (s .stage) (queue q (s .queued))) in
       rw (block-done s q c pool x front-accepted)
       (record {
@@ -91,10 +97,15 @@ module _ (s : Session) (q c : List ℕ) (pool x y : List Float) (places : length
   pub rest-places : length (blockOf s q c pool x .0 .session .stage .sound .voices .table) ≡ 16
   rest-places = rw (block-done s q c pool x front-accepted) (block-came s q c pool (a .formed) places (framesOf x) room .stands .places)
 
-  -- THE CUT. An accepted block is a block of its front and then a block of the rest, on the session that the first left: same answer, same session,
-  -- same samples.
+  -- THE CUT. An accepted block is a block of its front and then a block of the rest, on the session that the first left: same session, same samples,
+  -- and the passes add up.
   pub block-cut : blockOf s q c pool (x ++ y)
-      ≡ (blockOf (blockOf s q c pool x .0 .session) q c pool y .0, blockOf s q c pool x .1 ++ blockOf (blockOf s q c pool x .0 .session) q c pool y .1)
+      ≡ (
+        blockAnswered
+            (BlockAnswer.Done (reported (blockOf s q c pool x .0 .answer) + reported (blockOf (blockOf s q c pool x .0 .session) q c pool y .0 .answer)))
+            (blockOf (blockOf s q c pool x .0 .session) q c pool y .0 .session),
+        blockOf s q c pool x .1 ++ blockOf (blockOf s q c pool x .0 .session) q c pool y .1,
+      )
   block-cut =
       rw (block-done (blockOf s q c pool x .0 .session) q c pool y rest-accepted, block-done s q c pool x front-accepted, block-done s q c pool (x ++ y) a, frames-joined x y e)
       (done-cut s q pool (framesOf x) (framesOf y))
@@ -102,7 +113,7 @@ module _ (s : Session) (q c : List ℕ) (pool x y : List Float) (places : length
 -- a block in any pieces, each a whole number of frames
 pub block-cuts : (s : Session) (q c : List ℕ) (pool : List Float) (outs : List (List Float)) → length (s .stage .sound .voices .table) ≡ 16
     → Accepted s q c pool (joined outs) → Each (λ out. isOdd out ≡ false) outs
-    → (blockOf s q c pool (joined outs) .0 .session, blockOf s q c pool (joined outs) .1) ≡ blocksOf s q c pool outs
+    → (blockOf s q c pool (joined outs) .0 .session, reported (blockOf s q c pool (joined outs) .0 .answer), blockOf s q c pool (joined outs) .1) ≡ blocksOf s q c pool outs
 unfolding ranOf
 block-cuts s q c pool [] places a e =
     rw (block-done s q c pool [] a, block-none (machineOf (s .settings) (viewOf pool (s .bank))) (stand (s .stage) (queue q (s .queued))), length-queue q (s .queued))

@@ -25,19 +25,19 @@ use Rattle.bank.specs.declared.Bank.{Bank}
 use Rattle.bank.specs.Slots.{blank, clipOf}
 use Rattle.bank.specs.Recording.{viewOf}
 use Rattle.bank.proofs.Places.{getD-any}
-use Rattle.oneshot.specs.declared.Pair.{Pair}
 use Rattle.stage.specs.declared.Settings.{Settings}
 use Rattle.stage.specs.declared.Stage.{Stage}
-use Rattle.stage.specs.Machine.{Told, machineOf, outputOf}
+use Rattle.stage.specs.Machine.{Told, FrameMade, machineOf, outputOf, passesOf}
 use Rattle.stage.proofs.Clock.{clocked}
+use Rattle.stage.proofs.Passes.{passes-append}
 use Rattle.session.specs.declared.Desk.{Desk}
 use Rattle.session.specs.declared.Session.{Session}
-use Rattle.session.specs.declared.Answer.{Answer}
-use Rattle.session.specs.Answer.{answered}
 use Rattle.session.proofs.Ready.{frame-ready}
 use Rattle.session.proofs.Kept.{song-fits}
 use Rattle.runs.specs.Frames.{stretchOf, FramesReady}
-use Rattle.block.specs.Block.{ofParts, ranOf, blockDone}
+use Rattle.runs.proofs.Runs.{stretch-few}
+use Rattle.block.specs.declared.BlockAnswer.{BlockAnswer}
+use Rattle.block.specs.Block.{ofParts, blockAnswered, ranOf, blockDone}
 use Rattle.block.specs.Fill.{firstDue, leadOf, firstDone, Going, Fillable}
 use Rattle.block.proofs.Kept.{Standing, run-stands, executed}
 use Rattle.block.proofs.Steps.{due-some, due-at, queue-some, lead-most, lead-some}
@@ -53,7 +53,7 @@ pub part-length : {A : Type 0} (o y : List A) (a : ℕ) → a ≤ length o → l
 part-length o y a h e = simp (length-append, length-take, length-drop) (omega arith)
 
 module _ (x : Settings) (b : Bank) (t : Stage) (m : ℕ) (q : List ℕ) (pool : List Float) where
-  abbrev machine : Machine Stage QueueRecord Pair Told
+  abbrev machine : Machine Stage QueueRecord FrameMade Told
   machine = machineOf x (viewOf pool b)
 
   abbrev began : At Stage QueueRecord
@@ -77,8 +77,8 @@ module _ (x : Settings) (b : Bank) (t : Stage) (m : ℕ) (q : List ℕ) (pool : 
       let pos : 0 < k = due-some q k (y .clock .0) h in
       rw (queue-some q k (y .clock .0) pos, sym (due-at q k (y .clock .0) pos) ∙ h)
 
-  -- i of n frames of the block that began at t are made, and it has come to a stage y with k commands queued
-  pub record Filling (n : ℕ) (o : List Float) (y : Stage) (k i : ℕ) : Type 0 where
+  -- i of n frames of the block that began at t are made with p passes, and it has come to a stage y with k commands queued
+  pub record Filling (n : ℕ) (o : List Float) (y : Stage) (k p i : ℕ) : Type 0 where
     pub desk : Desk
     pub capture : List ℕ
     pub stands : Standing (at t m desk) q capture k (stand y (queue q k))
@@ -87,13 +87,15 @@ module _ (x : Settings) (b : Bank) (t : Stage) (m : ℕ) (q : List ℕ) (pool : 
     pub most : i ≤ n
     pub size : length o ≡ n * 2
     pub clock : y .clock .0 + (n - i) ≤ 2 ^ 62
-    pub made : List Pair
+    pub made : List FrameMade
     pub told : List Told
     pub partway : Partway machine n began i y (queue q k) made told
     pub sound : outputOf made ≡ take (i * 2) o
+    pub passed : p ≡ passesOf made
+    pub few : p ≤ i * 2
 
   -- at its start
-  pub fill-start : (o : List Float) → Fillable x b t m q pool o → Filling (framesOf o) o t m 0
+  pub fill-start : (o : List Float) → Fillable x b t m q pool o → Filling (framesOf o) o t m 0 0
   fill-start o h =
       record {
         desk = h .going .desk;
@@ -108,9 +110,11 @@ module _ (x : Settings) (b : Bank) (t : Stage) (m : ℕ) (q : List ℕ) (pool : 
         told = [];
         partway = partway-start machine (framesOf o) began;
         sound = refl;
+        passed = refl;
+        few = omega arith;
       }
 
-  module _ (n : ℕ) (o : List Float) (y : Stage) (k i : ℕ) (h : Filling n o y k i) where
+  module _ (n : ℕ) (o : List Float) (y : Stage) (k p i : ℕ) (h : Filling n o y k p i) where
     -- the session so far is going
     pub fill-going : Going x b y k q
     fill-going = record { desk = h .desk; capture = h .capture; formed = h .stands .formed; places = h .stands .places; number = h .number }
@@ -124,7 +128,7 @@ module _ (x : Settings) (b : Bank) (t : Stage) (m : ℕ) (q : List ℕ) (pool : 
     fill-clip e d = getD-any (b .clips) (y .playhead .song .slot) d blank (omega (arith, fill-slot))
 
     -- a turn that executes a command, where a clip is the song that plays
-    pub fill-exec : (clip : Clip) → clip ≡ clipOf b (y .playhead .song) → i < n → firstDue q k (y .clock .0) ≡ true → Filling n o (firstDone x clip q k y) (k - 1) i
+    pub fill-exec : (clip : Clip) → clip ≡ clipOf b (y .playhead .song) → i < n → firstDue q k (y .clock .0) ≡ true → Filling n o (firstDone x clip q k y) (k - 1) p i
     unfolding viewOf
     fill-exec clip ec lt d =
         let pos : 0 < k = due-some q k (y .clock .0) d in
@@ -148,6 +152,8 @@ module _ (x : Settings) (b : Bank) (t : Stage) (m : ℕ) (q : List ℕ) (pool : 
               partway-exec machine n began i y (queue q (k - 1)) (h .made) (h .told) r lt (sym (due-at q k (y .clock .0) pos) ∙ d)
               (rw (queue-some q k (y .clock .0) pos) at (h .partway));
           sound = h .sound;
+          passed = h .passed;
+          few = h .few;
         })
 
     -- some frames can be made before the next command, into the later part of the output
@@ -167,18 +173,23 @@ module _ (x : Settings) (b : Bank) (t : Stage) (m : ℕ) (q : List ℕ) (pool : 
       pub turn-most : i + j ≤ n
       turn-most = omega (arith, h .most, lead-most q k (y .clock .0) (n - i))
 
+      -- with at most two passes each the passes stay below the output's places
+      pub turn-few : (v : ℕ) → v ≡ passesOf (stretchOf x (viewOf pool b) j y .made) → p + v ≤ length o
+      turn-few v ev = rw ev (omega (arith, h .few, h .size, turn-most, stretch-few x (viewOf pool b) j y))
+
       -- a turn that makes them
-      pub fill-stretch : (r : Stage) (ys : List Float) → firstDue q k (y .clock .0) ≡ false
+      pub fill-stretch : (r : Stage) (v : ℕ) (ys : List Float) → firstDue q k (y .clock .0) ≡ false
           → r ≡ stretchOf x (viewOf pool b) j y .at .core
           → ys ≡ outputOf (stretchOf x (viewOf pool b) j y .made) ++ drop (j * 2) (take (length o - i * 2) (drop (i * 2) o))
           → length ys ≡ length (take (length o - i * 2) (drop (i * 2) o))
-          → Filling n (take (i * 2) o ++ (ys ++ drop (length o - i * 2) (drop (i * 2) o))) r k (i + j)
+          → v ≡ passesOf (stretchOf x (viewOf pool b) j y .made)
+          → Filling n (take (i * 2) o ++ (ys ++ drop (length o - i * 2) (drop (i * 2) o))) r k (p + v) (i + j)
       unfolding stretchOf
-      fill-stretch r ys d er ey ly =
+      fill-stretch r v ys d er ey ly ev =
           let two : (i + j) * 2 ≡ i * 2 + j * 2 = omega arith in
           let most = turn-most in
           let clock = run-clock machine (clocked x (viewOf pool b)) j (stand y []) in
-          rw er
+          rw (er, ev)
           (record {
             desk = h .desk;
             capture = h .capture;
@@ -195,33 +206,35 @@ module _ (x : Settings) (b : Bank) (t : Stage) (m : ℕ) (q : List ℕ) (pool : 
                 rw (samples-append _ _ (h .made), h .sound, two, ey)
                 (sym (part-take o _ _ _ (i * 2) (j * 2) (omega (arith, h .size))
                 (samples-length _ _ (run machine j (stand y []) .made) ∙ ap (λ (l : ℕ). l * 2) (run-length machine j (stand y [])))));
+            passed = rw (passes-append (h .made), h .passed) refl;
+            few = omega (arith, h .few, stretch-few x (viewOf pool b) j y);
           })
 
     -- what the block gives, whatever the desk
     module _ (pos : 0 < n) (e : i ≡ n) (desk : Desk) where
       ends-at : (c : Stage) (l : ℕ) (told : List Told) → one machine y (queue q k) ≡ ran (stand c (queue q l)) [] told
-          → (answered Answer.Done (at c l desk), o) ≡ blockDone (at t m desk) (ranOf (at t m desk) q pool n)
+          → (blockAnswered (BlockAnswer.Done p) (at c l desk), o) ≡ blockDone (at t m desk) (ranOf (at t m desk) q pool n)
       unfolding ranOf
       ends-at c l told w =
           let r : block machine n began ≡ ran (stand c (queue q l)) (h .made) (h .told ++ told) =
           partway-block machine n began i y (queue q k) (h .made) (h .told) (omega arith) (h .partway) pos ∙ rw (w, append-nil (h .made)) in
-          rw (r, length-queue q l, h .sound, take-all (i * 2) o (omega (arith, h .size)))
+          rw (r, length-queue q l, h .sound, h .passed, take-all (i * 2) o (omega (arith, h .size)))
 
       -- left after the single command at the block's end
       pub fill-last : (clip : Clip) → clip ≡ clipOf b (y .playhead .song) → firstDue q k (y .clock .0) ≡ true
-          → (answered Answer.Done (at (firstDone x clip q k y) (k - 1) desk), o) ≡ blockDone (at t m desk) (ranOf (at t m desk) q pool n)
+          → (blockAnswered (BlockAnswer.Done p) (at (firstDone x clip q k y) (k - 1) desk), o) ≡ blockDone (at t m desk) (ranOf (at t m desk) q pool n)
       unfolding viewOf
       fill-last clip ec d =
           let r : QueueRecord = recordOf (rowAt q (k - 1)) in
           rw ec (ends-at (machine .exec r y) (k - 1) (machine .tells r y ∷ []) (one-due y k d))
 
       -- left with nothing due at the block's end
-      pub fill-end : firstDue q k (y .clock .0) ≡ false → (answered Answer.Done (at y k desk), o) ≡ blockDone (at t m desk) (ranOf (at t m desk) q pool n)
+      pub fill-end : firstDue q k (y .clock .0) ≡ false → (blockAnswered (BlockAnswer.Done p) (at y k desk), o) ≡ blockDone (at t m desk) (ranOf (at t m desk) q pool n)
       fill-end d = ends-at y k [] (one-not y k d)
 
   -- a block of no frames
   pub fill-none : (o : List Float) → length o ≡ framesOf o * 2 → framesOf o ≡ 0 → (desk : Desk)
-      → (answered Answer.Done (at t m desk), o) ≡ blockDone (at t m desk) (ranOf (at t m desk) q pool (framesOf o))
+      → (blockAnswered (BlockAnswer.Done 0) (at t m desk), o) ≡ blockDone (at t m desk) (ranOf (at t m desk) q pool (framesOf o))
   unfolding ranOf
   fill-none [] e z desk = rw (block-none machine began, length-queue q m)
   fill-none (f ∷ o) e z desk = absurd (omega arith)

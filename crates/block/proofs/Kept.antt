@@ -17,19 +17,17 @@ use Rattle.timeline.specs.Queue.{queue}
 use Rattle.timeline.proofs.Queue.{length-queue}
 use Rattle.bank.specs.Sample.{framesOf}
 use Rattle.bank.specs.Recording.{viewOf}
-use Rattle.oneshot.specs.declared.Pair.{Pair}
 use Rattle.stage.specs.declared.Stage.{Stage}
-use Rattle.stage.specs.Machine.{Told, machineOf}
+use Rattle.stage.specs.Machine.{Told, FrameMade, machineOf}
 use Rattle.stage.proofs.Keeps.{frame-clock, exec-clock}
 use Rattle.stage.proofs.Clock.{clocked}
 use Rattle.session.specs.declared.Session.{Session}
-use Rattle.session.specs.declared.Answer.{Answer}
 use Rattle.session.specs.Session.{withStage}
 use Rattle.session.specs.WellFormed.{wellFormed}
-use Rattle.session.specs.Answer.{answered}
 use Rattle.session.proofs.Refuse.{passed, unless-both}
 use Rattle.session.proofs.Kept.{frame-keeps, frame-table, exec-keeps, exec-table}
-use Rattle.block.specs.Block.{weighBlock, ranOf, blockDone, blockOf}
+use Rattle.block.specs.declared.BlockAnswer.{BlockAnswer}
+use Rattle.block.specs.Block.{blockAnswered, weighBlock, ranOf, blockDone, blockOf}
 
 module _ (s : Session) (q c : List ℕ) where
   -- the session is well formed at a stage with k records queued, which are the queue, and the table has its 16 places
@@ -39,14 +37,14 @@ module _ (s : Session) (q c : List ℕ) where
     pub places : length (x .core .sound .voices .table) ≡ 16
 
   -- so it stands where it came to, with `left` of k records queued, and the clock has risen by the frames made
-  pub record Came (k : ℕ) (x : At Stage QueueRecord) (r : Ran Stage QueueRecord Pair Told) : Type 0 where
+  pub record Came (k : ℕ) (x : At Stage QueueRecord) (r : Ran Stage QueueRecord FrameMade Told) : Type 0 where
     pub left : ℕ
     pub fewer : left ≤ k
     pub stands : Standing left (r .at)
     pub clock : r .at .core .clock .0 ≡ x .core .clock .0 + length (r .made)
 
   module _ (pool : List Float) where
-    abbrev machine : Machine Stage QueueRecord Pair Told
+    abbrev machine : Machine Stage QueueRecord FrameMade Told
     machine = machineOf (s .settings) (viewOf pool (s .bank))
 
     -- a frame keeps it so,
@@ -77,13 +75,13 @@ module _ (s : Session) (q c : List ℕ) where
           places = subst (λ (d : QueueRecord). length (machine .exec d x .sound .voices .table) ≡ 16) (sym e) (exec-table y q c (p .formed) k refl (p .places));
         }
 
-    abbrev Comes : At Stage QueueRecord → Ran Stage QueueRecord Pair Told → Type 0
+    abbrev Comes : At Stage QueueRecord → Ran Stage QueueRecord FrameMade Told → Type 0
     Comes x r = (k : ℕ) → Standing k x → x .core .clock .0 + length (r .made) ≤ 2 ^ 62 → Came k x r
 
     stays : (x : At Stage QueueRecord) → Comes x (still x)
     stays x k p h = record { left = k; fewer = omega arith; stands = p; clock = omega arith }
 
-    joins : (x : At Stage QueueRecord) (r t : Ran Stage QueueRecord Pair Told) → Comes x r → Comes (r .at) t → Comes x (after r t)
+    joins : (x : At Stage QueueRecord) (r t : Ran Stage QueueRecord FrameMade Told) → Comes x r → Comes (r .at) t → Comes x (after r t)
     joins x r t a b k p h =
         let l = length-append (r .made) (t .made) in
         let y = a k p (omega arith) in
@@ -126,7 +124,7 @@ module _ (s : Session) (q c : List ℕ) where
       pub call-keeps : (out : List Float) → wellFormed (blockOf s q c pool out .0 .session) q c ≡ true
       unfolding blockOf weighBlock
       call-keeps out =
-          unless-both (weighBlock s q c pool out) (λ k. (answered (Answer.Refused k) s, out))
+          unless-both (weighBlock s q c pool out) (λ k. (blockAnswered (BlockAnswer.Refused k) s, out))
           (blockDone s (ranOf s q pool (framesOf out))) (λ z. wellFormed (z .0 .session) q c ≡ true) (λ k. w)
           (λ f. let fine = passed _ _ _ (passed _ _ _ (passed _ _ _ (passed _ _ _ f .1) .1) .1) .0 in
           block-keeps (framesOf out) (ltb-false (2 ^ 62) (s .stage .clock .0 + framesOf out) fine))

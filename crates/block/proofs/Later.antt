@@ -19,16 +19,13 @@ use Rattle.timeline.specs.Queue.{queue, frame}
 use Rattle.timeline.proofs.Queue.{queue-inserted}
 use Rattle.bank.specs.Sample.{framesOf}
 use Rattle.bank.specs.Recording.{viewOf}
-use Rattle.oneshot.specs.declared.Pair.{Pair}
 use Rattle.stage.specs.declared.Stage.{Stage}
-use Rattle.stage.specs.Machine.{Told, machineOf}
+use Rattle.stage.specs.Machine.{Told, FrameMade, machineOf}
 use Rattle.stage.proofs.Clock.{clocked}
 use Rattle.session.specs.declared.Desk.{Desk}
 use Rattle.session.specs.declared.Session.{Session}
-use Rattle.session.specs.declared.Answer.{Answer}
 use Rattle.session.specs.Session.{withQueue}
-use Rattle.session.specs.Answer.{answered}
-use Rattle.block.specs.Block.{ranOf, blockDone, blockOf}
+use Rattle.block.specs.Block.{blockAnswered, ranOf, blockDone, blockOf}
 use Rattle.block.proofs.Weigh.{Accepted, block-done}
 use Rattle.block.proofs.Queue.{ran-fewer, queue-ran}
 use Rattle.block.proofs.Cut.{leftBy}
@@ -47,13 +44,13 @@ module _ (s : Session) (q : List ℕ) (pool : List Float) (n : ℕ) (r : QueueRe
   pub ran-later : ranOf (withOne s desk) (storeWith q s r) pool n ≡ insertRan (machineOf (s .settings) (viewOf pool (s .bank))) r (ranOf s q pool n)
   unfolding ranOf
   ran-later =
-      let m : Machine Stage QueueRecord Pair Told = machineOf (s .settings) (viewOf pool (s .bank)) in
+      let m : Machine Stage QueueRecord FrameMade Told = machineOf (s .settings) (viewOf pool (s .bank)) in
       ap (λ (l : List QueueRecord). block m n (stand (s .stage) l)) (queue-inserted q (s .queued) r room e)
       ∙ block-insert m (clocked (s .settings) (viewOf pool (s .bank))) r n (stand (s .stage) (queue q (s .queued))) later
 
   -- so the samples are the same, and the session is that without it, with one command more queued,
   pub done-later : blockDone (withOne s desk) (ranOf (withOne s desk) (storeWith q s r) pool n)
-      ≡ (answered Answer.Done (withOne (leftBy s q pool n) desk), blockDone s (ranOf s q pool n) .1)
+      ≡ (blockAnswered (blockDone s (ranOf s q pool n) .0 .answer) (withOne (leftBy s q pool n) desk), blockDone s (ranOf s q pool n) .1)
   done-later = rw (ran-later, length-insert frame r (ranOf s q pool n .at .queue))
 
   -- and the records that are live then are those of the store into which it comes after the block
@@ -71,7 +68,7 @@ pub block-later : (s : Session) (q c : List ℕ) (pool out : List Float) (r : Qu
     → s .queued * 5 + 5 ≤ length q → s .stage .clock .0 + framesOf out < frame r
     → Accepted s q c pool out → Accepted (withOne s desk) (storeWith q s r) c pool out
     → blockOf (withOne s desk) (storeWith q s r) c pool out
-    ≡ (answered Answer.Done (withOne (blockOf s q c pool out .0 .session) desk), blockOf s q c pool out .1)
+    ≡ (blockAnswered (blockOf s q c pool out .0 .answer) (withOne (blockOf s q c pool out .0 .session) desk), blockOf s q c pool out .1)
 block-later s q c pool out r desk e room later a b =
     rw (block-done s q c pool out a, block-done (withOne s desk) (storeWith q s r) c pool out b)
     (done-later s q pool (framesOf out) r desk room e later)

@@ -17,7 +17,7 @@ use Rattle.timeline.specs.Queue.{orderedAt, entryOk, queueOk, captureOk}
 use Rattle.transport.specs.declared.LoopRange.{LoopRange}
 use Rattle.transport.specs.declared.Transport.{Transport}
 use Rattle.transport.specs.declared.TransportState.{TransportState}
-use Rattle.transport.specs.Transport.{transport, wrapOf, cursorOn, advanceOf, stepOf}
+use Rattle.transport.specs.Transport.{transport, wrapOf, cursorOn, advanceOf, isPast, comesRound, stepOf}
 use Rattle.bank.specs.declared.Kind.{Kind}
 use Rattle.bank.specs.Sample.{sampleOk}
 use Rattle.bank.specs.Slots.{usedAt, live, standsFor, claimOk, loadedIn, emptyBank}
@@ -64,7 +64,7 @@ opened n =
       stage =
           record {
             clock = record { 0 = 0 };
-            playhead = playhead (transport TransportState.Stopped 0 0 LoopRange.Off) song;
+            playhead = playhead (transport TransportState.Stopped 0 0 LoopRange.Off 0) song;
             sound = sound (atRest one32) Tail.None noVoices;
             counters = counters 0 0 0;
           };
@@ -107,7 +107,7 @@ TwoCommands =
     (executed (after both 8 (opened 2)) ≡ 1)
     × (executed (after both 0 (after both 8 (opened 2))) ≡ 1)
     × (executed (after both 1 (after both 0 (after both 8 (opened 2)))) ≡ 2)
-    × (transportOf (after both 1 (after both 0 (after both 8 (opened 2)))) ≡ transport TransportState.Paused 0 0 LoopRange.Off)
+    × (transportOf (after both 1 (after both 0 (after both 8 (opened 2)))) ≡ transport TransportState.Paused 0 0 LoopRange.Off 0)
     × (executed (after both 9 (opened 2)) ≡ 2)
 
 -- song (0.5, -0.5), (0.25, 0.25), length 2, Play at 0, block of 4: those pairs, four zeros; position 2, Stopped
@@ -125,5 +125,5 @@ GainAtRest =
 
 -- the numbers of blocks
 pub numbers : TwoCommands × WholeSong × GainAtRest
-unfolding add sub mul div ofInt le lt ofBits run block allBelow countBelow finite readable readOf sooner rowAt orderedAt entryOk queueOk captureOk wrapOf cursorOn advanceOf stepOf sampleOk usedAt live standsFor claimOk loadedIn emptyBank viewOf sampleAt clipOk slotOk bankOk noVoices mixOf mixIn movedOf playheadBy playedOf withTail tailOn renderedOf soundBy countersBy frameOf executeOf first unless settingsOk numbersOk storesOk recordsOk handlesOk songOk stingersOk headsOk masterOk rampsOk countsOk wellFormed weighBlock ranOf blockOf
+unfolding add sub mul div ofInt le lt ofBits run block allBelow countBelow finite readable readOf sooner rowAt orderedAt entryOk queueOk captureOk wrapOf cursorOn advanceOf isPast comesRound stepOf sampleOk usedAt live standsFor claimOk loadedIn emptyBank viewOf sampleAt clipOk slotOk bankOk noVoices mixOf mixIn movedOf playheadBy playedOf withTail tailOn renderedOf soundBy countersBy frameOf executeOf first unless settingsOk numbersOk storesOk recordsOk handlesOk songOk stingersOk headsOk masterOk rampsOk countsOk wellFormed weighBlock ranOf blockOf
 numbers = ((refl, refl, refl, refl, refl), (refl, refl, refl), (refl, refl))

@@ -16,9 +16,8 @@ use Rattle.timeline.proofs.Queue.{queue-left, length-queue}
 use Rattle.timeline.proofs.WellFormed.{queue-ordered}
 use Rattle.bank.specs.Sample.{framesOf}
 use Rattle.bank.specs.Recording.{viewOf}
-use Rattle.oneshot.specs.declared.Pair.{Pair}
 use Rattle.stage.specs.declared.Stage.{Stage}
-use Rattle.stage.specs.Machine.{Told, machineOf}
+use Rattle.stage.specs.Machine.{Told, FrameMade, machineOf}
 use Rattle.stage.proofs.Clock.{clocked}
 use Rattle.session.specs.declared.Session.{Session}
 use Rattle.session.proofs.Parts.{parts}
@@ -34,14 +33,14 @@ module _ (s : Session) (q : List ℕ) (pool : List Float) (n : ℕ) where
   pub ran-fewer : length (ranOf s q pool n .at .queue) ≤ s .queued
   unfolding ranOf
   ran-fewer =
-      let m : Machine Stage QueueRecord Pair Told = machineOf (s .settings) (viewOf pool (s .bank)) in
+      let m : Machine Stage QueueRecord FrameMade Told = machineOf (s .settings) (viewOf pool (s .bank)) in
       omega (arith, told-and-left m n (stand (s .stage) (queue q (s .queued))), length-queue q (s .queued))
 
   -- and those of the count that a block leaves are those that it did not execute, in the store as before
   pub queue-ran : queue q (length (ranOf s q pool n .at .queue)) ≡ ranOf s q pool n .at .queue
   unfolding ranOf
   queue-ran =
-      let m : Machine Stage QueueRecord Pair Told = machineOf (s .settings) (viewOf pool (s .bank)) in
+      let m : Machine Stage QueueRecord FrameMade Told = machineOf (s .settings) (viewOf pool (s .bank)) in
       let x : At Stage QueueRecord = stand (s .stage) (queue q (s .queued)) in
       let e : length (block m n x .at .queue) + length (block m n x .told) ≡ s .queued =
       omega (arith, told-and-left m n x, length-queue q (s .queued)) in
@@ -52,7 +51,7 @@ module _ (s : Session) (q : List ℕ) (pool : List Float) (n : ℕ) where
       → Each (λ r. ranOf s q pool n .at .core .clock .0 ≤ frame r) (ranOf s q pool n .at .queue)
   unfolding ranOf
   none-behind last ok pos =
-      let m : Machine Stage QueueRecord Pair Told = machineOf (s .settings) (viewOf pool (s .bank)) in
+      let m : Machine Stage QueueRecord FrameMade Told = machineOf (s .settings) (viewOf pool (s .bank)) in
       none-below m (clocked (s .settings) (viewOf pool (s .bank))) n (stand (s .stage) (queue q (s .queued))) pos
       (ordered-sorted m (λ r. r .number) (queue q (s .queued)) (queue-ordered last q (s .queued) ok))
 

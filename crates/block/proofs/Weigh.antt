@@ -11,11 +11,10 @@ use Rattle.bank.specs.Sample.{framesOf, isPool, isOdd}
 use Rattle.session.specs.declared.Session.{Session}
 use Rattle.session.specs.declared.Refusal.{Refusal}
 use Rattle.session.specs.declared.Weighed.{Weighed}
-use Rattle.session.specs.declared.Answer.{Answer}
 use Rattle.session.specs.WellFormed.{wellFormed}
-use Rattle.session.specs.Answer.{answered}
 use Rattle.session.proofs.Refuse.{passed, skip, unless-fine, unless-refused}
-use Rattle.block.specs.Block.{weighBlock, ranOf, blockDone, blockOf}
+use Rattle.block.specs.declared.BlockAnswer.{BlockAnswer}
+use Rattle.block.specs.Block.{blockAnswered, weighBlock, ranOf, blockDone, blockOf}
 use Rattle.block.specs.Fill.{Fillable}
 
 -- none of 1, 2, 3 and 4
@@ -55,7 +54,7 @@ module _ (s : Session) (q c : List ℕ) (pool out : List Float) where
   block-done a = unless-fine _ _ _ (fine a)
 
   -- a refused one gives its refusal, and leaves session and output
-  pub block-refused : (k : Refusal) → weighBlock s q c pool out ≡ Weighed.Refused k → blockOf s q c pool out ≡ (answered (Answer.Refused k) s, out)
+  pub block-refused : (k : Refusal) → weighBlock s q c pool out ≡ Weighed.Refused k → blockOf s q c pool out ≡ (blockAnswered (BlockAnswer.Refused k) s, out)
   unfolding blockOf
   block-refused k e = unless-refused _ _ _ k e
 

@@ -7,15 +7,12 @@ ghost use Prim.Native.Nat.{_*_, _≤_, _<_};
 ghost use lib.ListN.{length};
 ghost use Rattle.bank.specs.Sample.{framesOf};
 ghost use Rattle.session.specs.declared.Desk.{Desk};
-ghost use Rattle.session.specs.declared.Answered.{Answered};
-ghost use Rattle.session.specs.Answer.{answered};
-ghost use Rattle.block.specs.Block.{ofParts, weighBlock, ranOf, blockDone, blockOf};
+ghost use Rattle.block.specs.declared.BlockAnswered.{BlockAnswered};
+ghost use Rattle.block.specs.Block.{ofParts, blockAnswered, weighBlock, ranOf, blockDone, blockOf};
 ghost use Rattle.block.specs.Fill.{firstDue, leadOf, firstDone, Executable, Fillable};
 use bank::Bank;
 use bank::Clip;
 use counts::ClockFrame;
-use session::Answer;
-use session::Answered;
 use session::CLOCK_END;
 use session::Desk;
 use session::Refusal;
@@ -24,9 +21,21 @@ use session::Weighed;
 use stage::Settings;
 use stage::Stage;
 
+/// The answer of a block: how many times the playhead passed from a loop's end to its start in it.
+pub enum BlockAnswer {
+    Done(u64),
+    Refused(Refusal),
+}
+
+/// A block's answer, and the session.
+pub struct BlockAnswered {
+    pub answer: BlockAnswer,
+    pub session: Session,
+}
+
 /// What a block makes: its answer, and what it changes of a session, the stage and the depth.
 pub struct Made {
-    pub answer: Answer,
+    pub answer: BlockAnswer,
     pub stage: Stage,
     pub queued: usize,
 }
@@ -107,7 +116,7 @@ fn execute_first(
 }
 
 /// While frames remain, the first queued command is executed if it is due, else frames are made up to the next one;
-/// after the last frame one command, if it is due. No frames: nothing.
+/// after the last frame one command, if it is due. No frames: nothing. It answers the passes of all frames.
 fn fill(
     settings: Settings,
     bank: Bank,
@@ -118,18 +127,19 @@ fn fill(
     out: &mut [f32],
 ) -> Made
     requires { ⌜ Fillable settings bank stage queued (now queue) (now pool) (now out) ⌝ }
-    ensures { λ r. ⌜ ((desk : Desk) → _≡_ {A = Answered × List Float} (answered (r .answer) (ofParts settings bank (r .stage) (r .queued) desk), now (out .exit)) (blockDone (ofParts settings bank stage queued desk) (ranOf (ofParts settings bank stage queued desk) (now (queue .entry)) (now (pool .entry)) (framesOf (now (out .entry)))))) ⌝ }
+    ensures { λ r. ⌜ ((desk : Desk) → _≡_ {A = BlockAnswered × List Float} (blockAnswered (r .answer) (ofParts settings bank (r .stage) (r .queued) desk), now (out .exit)) (blockDone (ofParts settings bank stage queued desk) (ranOf (ofParts settings bank stage queued desk) (now (queue .entry)) (now (pool .entry)) (framesOf (now (out .entry)))))) ⌝ }
 {
     let frames = out.len() / 2;
     if frames == 0 {
         return Made {
-            answer: Answer::Done,
+            answer: BlockAnswer::Done(0),
             stage,
             queued,
         };
     }
     let mut stage = stage;
     let mut queued = queued;
+    let mut passes = 0;
     let mut done = 0;
     'block: loop {
         if is_due(stage.clock, queue, queued) {
@@ -149,11 +159,12 @@ fn fill(
             let further = runs::frames_on(stage, settings, pool, bank, &mut out[at..], ahead);
             let more = further.frames;
             stage = further.stage;
+            passes = passes + further.passes;
             done = done + more;
         }
     }
     Made {
-        answer: Answer::Done,
+        answer: BlockAnswer::Done(passes),
         stage,
         queued,
     }
@@ -171,7 +182,7 @@ pub fn make(
     pool: &[f32],
     out: &mut [f32],
 ) -> Made
-    ensures { λ r. ⌜ _≡_ {A = Answered × List Float} (answered (r .answer) (ofParts settings bank (r .stage) (r .queued) desk), now (out .exit)) (blockOf (ofParts settings bank stage queued desk) (now (queue .entry)) (now (capture .entry)) (now (pool .entry)) (now (out .entry))) ⌝ }
+    ensures { λ r. ⌜ _≡_ {A = BlockAnswered × List Float} (blockAnswered (r .answer) (ofParts settings bank (r .stage) (r .queued) desk), now (out .exit)) (blockOf (ofParts settings bank stage queued desk) (now (queue .entry)) (now (capture .entry)) (now (pool .entry)) (now (out .entry))) ⌝ }
 {
     let weighed = weigh_block(
         settings,
@@ -187,7 +198,7 @@ pub fn make(
     match weighed {
         Weighed::Fine => fill(settings, bank, stage, queued, queue, pool, &mut out[..]),
         Weighed::Refused(k) => Made {
-            answer: Answer::Refused(k),
+            answer: BlockAnswer::Refused(k),
             stage,
             queued,
         },
@@ -196,8 +207,14 @@ pub fn make(
 
 /// A block of the frames that fit the output: it is filled, and the commands that fall due leave the queue.
 /// A refused block leaves it as it was.
-pub fn block(s: Session, queue: &[u64], capture: &[u64], pool: &[f32], out: &mut [f32]) -> Answered
-    ensures { λ r. ⌜ _≡_ {A = Answered × List Float} (r, now (out .exit)) (blockOf s (now (queue .entry)) (now (capture .entry)) (now (pool .entry)) (now (out .entry))) ⌝ }
+pub fn block(
+    s: Session,
+    queue: &[u64],
+    capture: &[u64],
+    pool: &[f32],
+    out: &mut [f32],
+) -> BlockAnswered
+    ensures { λ r. ⌜ _≡_ {A = BlockAnswered × List Float} (r, now (out .exit)) (blockOf s (now (queue .entry)) (now (capture .entry)) (now (pool .entry)) (now (out .entry))) ⌝ }
 {
     let settings = s.settings;
     let bank = s.bank;
@@ -219,5 +236,5 @@ pub fn block(s: Session, queue: &[u64], capture: &[u64], pool: &[f32], out: &mut
     let mut s = s;
     s.stage = next;
     s.queued = made.queued;
-    Answered { answer, session: s }
+    BlockAnswered { answer, session: s }
 }

@@ -62,7 +62,7 @@ abbrev pub stageAt : Handle → Stage
 stageAt h =
     record {
       clock = record { 0 = 0 };
-      playhead = playhead (transport TransportState.Stopped 0 0 LoopRange.Off) h;
+      playhead = playhead (transport TransportState.Stopped 0 0 LoopRange.Off 0) h;
       sound = sound (atRest one32) Tail.None noVoices;
       counters = counters 0 0 0;
     }

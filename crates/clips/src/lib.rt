@@ -107,6 +107,7 @@ fn stage_at(h: Handle) -> Stage
         position: SongFrame(0),
         cursor: SongFrame(0),
         looped: LoopRange::Off,
+        laps: 0,
     };
     let master = Ramp::new(1.0);
     let fade = Fade { tail: Tail::None };

@@ -206,6 +206,7 @@ fn transport_by(extent: SongFrame, x: PerformanceSnapshot, t: Transport) -> Tran
         position: position,
         cursor: position,
         looped: looped,
+        laps: set.laps,
     }
 }
 

@@ -21,9 +21,8 @@ use Rattle.timeline.specs.Queue.{queue, frame}
 use Rattle.timeline.proofs.Queue.{queue-left, length-queue}
 use Rattle.transport.specs.declared.At.{At}
 use Rattle.bank.specs.Recording.{View}
-use Rattle.oneshot.specs.declared.Pair.{Pair}
 use Rattle.stage.specs.declared.Stage.{Stage}
-use Rattle.stage.specs.Machine.{Told, machineOf}
+use Rattle.stage.specs.Machine.{Told, FrameMade, machineOf}
 use Rattle.stage.proofs.Clock.{clocked}
 use Rattle.session.specs.declared.Session.{Session}
 use Rattle.session.specs.Session.{withStage}
@@ -57,14 +56,14 @@ module _ (s : Session) (q c : List ℕ) (x : Submission) (t : typed (commandOf x
       }
 
   module _ (view : View) (n : ℕ) (past : s .stage .clock .0 + n < f .0) where
-    abbrev stages : Machine Stage QueueRecord Pair Told
+    abbrev stages : Machine Stage QueueRecord FrameMade Told
     stages = machineOf (s .settings) view
 
     -- the block with the submission after it, and with the submission before it
-    abbrev alone : Ran Stage QueueRecord Pair Told
+    abbrev alone : Ran Stage QueueRecord FrameMade Told
     alone = block stages n (stand (s .stage) (waiting s q))
 
-    abbrev joined : Ran Stage QueueRecord Pair Told
+    abbrev joined : Ran Stage QueueRecord FrameMade Told
     joined = block stages n (stand (z .0 .session .stage) (waiting (z .0 .session) (z .1)))
 
     later : block stages n (insertAt stages r (stand (s .stage) (waiting s q))) ≡ insertRan stages r alone
