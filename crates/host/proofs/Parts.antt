@@ -13,15 +13,14 @@ use Rattle.bank.specs.declared.Bank.{Bank}
 use Rattle.bank.proofs.Places.{getD-any}
 use Rattle.stage.specs.declared.Stage.{Stage}
 use Rattle.session.specs.declared.Desk.{Desk}
-use Rattle.session.specs.declared.Answer.{Answer}
-use Rattle.session.specs.declared.Answered.{Answered}
-use Rattle.session.specs.Answer.{answered}
-use Rattle.block.specs.Block.{ofParts, blockOf}
+use Rattle.block.specs.declared.BlockAnswer.{BlockAnswer}
+use Rattle.block.specs.declared.BlockAnswered.{BlockAnswered}
+use Rattle.block.specs.Block.{ofParts, blockAnswered, blockOf}
 use Rattle.host.specs.declared.HostClip.{HostClip}
 use Rattle.host.specs.declared.HostSession.{HostSession}
-use Rattle.host.specs.declared.HostAnswered.{HostAnswered}
+use Rattle.host.specs.declared.HostBlocked.{HostBlocked}
 use Rattle.host.specs.Kept.{clipOf, clipNumbers, isState, isFlag, blankClip, slotNamed, kindsOk, isSession, stageOf, sessionOf, hostOf}
-use Rattle.host.specs.Answers.{refused, answeredWith}
+use Rattle.host.specs.Answers.{blockRefused, blockedWith}
 use Rattle.host.specs.Calls.{blockHost}
 use Rattle.host.proofs.Mapped.{map-step, map-done}
 use Rattle.host.proofs.Weighed.{call-refused, call-done}
@@ -96,18 +95,18 @@ module _ (h : HostSession) where
 
 module _ (h : HostSession) (q c : List ℕ) (pool out : List Float) where
   -- where there is none, it is refused with 1,
-  pub block-unmatched : isSession h ≡ false → _≡_ {A = HostAnswered × List Float} (refused h 1, out) (blockHost h q c pool out)
+  pub block-unmatched : isSession h ≡ false → _≡_ {A = HostBlocked × List Float} (blockRefused h 1, out) (blockHost h q c pool out)
   unfolding blockHost
   block-unmatched e = call-refused 1 _ _ _ (sym (weighed-none h q c true e)) (λ z. absurd (omega arith)) refl
 
   -- and else it answers as the block over the parts does
-  pub block-matched : (b : Bank) (t : Stage) (d : Desk) (x a : Answer) (u : Stage) (n : ℕ) (o : List Float) → isSession h ≡ true
+  pub block-matched : (b : Bank) (t : Stage) (d : Desk) (x a : BlockAnswer) (u : Stage) (n : ℕ) (o : List Float) → isSession h ≡ true
       → b ≡ sessionOf h .bank → t ≡ stageOf h → d ≡ sessionOf h .desk → x ≡ a
-      → _≡_ {A = Answered × List Float} (answered x (ofParts (h .settings) b u n d), o) (blockOf (ofParts (h .settings) b t (h .queued) d) q c pool out)
-      → _≡_ {A = HostAnswered × List Float} (answeredWith h a (hostOf (ofParts (h .settings) b u n d)), o) (blockHost h q c pool out)
+      → _≡_ {A = BlockAnswered × List Float} (blockAnswered x (ofParts (h .settings) b u n d), o) (blockOf (ofParts (h .settings) b t (h .queued) d) q c pool out)
+      → _≡_ {A = HostBlocked × List Float} (blockedWith h a (hostOf (ofParts (h .settings) b u n d)), o) (blockHost h q c pool out)
   unfolding blockHost sessionOf
   block-matched b t d x a u n o m eb et ed ea e =
       call-done 0 _ _ _ (sym (weighed-fine h q c true m refl)) refl
-      (ap (λ (y : Answer). (answeredWith h y (hostOf (ofParts (h .settings) b u n d)), o)) (sym ea)
-      ∙ ap (λ (z : Answered × List Float). (answeredWith h (z .0 .answer) (hostOf (z .0 .session)), z .1)) e
+      (ap (λ (y : BlockAnswer). (blockedWith h y (hostOf (ofParts (h .settings) b u n d)), o)) (sym ea)
+      ∙ ap (λ (z : BlockAnswered × List Float). (blockedWith h (z .0 .answer) (hostOf (z .0 .session)), z .1)) e
       ∙ rw (eb, et, ed))

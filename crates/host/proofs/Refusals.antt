@@ -31,12 +31,13 @@ use Rattle.host.specs.declared.HostSnapshot.{HostSnapshot}
 use Rattle.host.specs.declared.HostAnswered.{HostAnswered}
 use Rattle.host.specs.declared.HostLoaded.{HostLoaded}
 use Rattle.host.specs.declared.HostSubmitted.{HostSubmitted}
+use Rattle.host.specs.declared.HostBlocked.{HostBlocked}
 use Rattle.host.specs.declared.HostReplayed.{HostReplayed}
 use Rattle.host.specs.declared.HostStopped.{HostStopped}
 use Rattle.host.specs.declared.HostSnapped.{HostSnapped}
 use Rattle.host.specs.declared.HostMetrics.{HostMetrics}
 use Rattle.host.specs.Kept.{isSession, sessionOf}
-use Rattle.host.specs.Answers.{withDropped, turned, weighHost, unless as unlessHost, refused, answeredBy, loadRefused, loadedBy, submitRefused, submittedBy, replayRefused, replayedBy, stopRefused, stoppedBy, snapshotRefused, snappedBy, metricsRefused, meteredBy}
+use Rattle.host.specs.Answers.{withDropped, turned, weighHost, unless as unlessHost, refused, answeredBy, loadRefused, loadedBy, submitRefused, submittedBy, blockRefused, blockedBy, replayRefused, replayedBy, stopRefused, stoppedBy, snapshotRefused, snappedBy, metricsRefused, meteredBy}
 use Rattle.host.specs.Calls.{loadHost, retireHost, submitHost, transitionHost, replayHost, blockHost, startCaptureHost, stopCaptureHost, snapshotHost, applyHost, metricsHost}
 
 -- beside a lent store,
@@ -141,9 +142,9 @@ module _ (h : HostSession) (q c : List ℕ) where
   replay-stays list = stays (λ z. z .0 .refusal) (λ n. (replayRefused h n, q)) (withStore (replayedBy h)) _ _ _ _ (λ m. refl) (λ k. refl) refl
 
   -- a block,
-  pub block-stays : (pool out : List Float) → let z : HostAnswered × List Float = blockHost h q c pool out in (z .0 .refusal ≡ 0 → ⊥) → z ≡ (refused h (z .0 .refusal), out)
+  pub block-stays : (pool out : List Float) → let z : HostBlocked × List Float = blockHost h q c pool out in (z .0 .refusal ≡ 0 → ⊥) → z ≡ (blockRefused h (z .0 .refusal), out)
   unfolding blockHost blockOf
-  block-stays pool out = stays (λ z. z .0 .refusal) (λ n. (refused h n, out)) (withStore (answeredBy h)) _ _ _ _ (λ m. refl) (λ k. refl) refl
+  block-stays pool out = stays (λ z. z .0 .refusal) (λ n. (blockRefused h n, out)) (withStore (blockedBy h)) _ _ _ _ (λ m. refl) (λ k. refl) refl
 
   -- starting capture,
   pub start-stays : let z : HostAnswered = startCaptureHost h q c in (z .refusal ≡ 0 → ⊥) → z ≡ refused h (z .refusal)

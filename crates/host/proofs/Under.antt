@@ -19,7 +19,8 @@ use Rattle.session.specs.Refusal.{numberOf, unless}
 use Rattle.session.specs.WellFormed.{weighOnly}
 use Rattle.session.specs.Answer.{Says, refused, gives, says}
 use Rattle.session.proofs.Refuse.{number-some, numbered, other, refused-or-done}
-use Rattle.block.specs.Block.{weighBlock, blockOf}
+use Rattle.block.specs.declared.BlockAnswered.{BlockAnswered}
+use Rattle.block.specs.Block.{saysBlock, weighBlock, blockOf}
 use Rattle.clips.specs.declared.LoadAnswer.{LoadAnswer}
 use Rattle.clips.specs.declared.LoadAnswered.{LoadAnswered}
 use Rattle.clips.specs.Answer.{saysLoad, loadAnswered}
@@ -49,20 +50,21 @@ use Rattle.host.specs.declared.HostSnapshot.{HostSnapshot}
 use Rattle.host.specs.declared.HostAnswered.{HostAnswered}
 use Rattle.host.specs.declared.HostLoaded.{HostLoaded}
 use Rattle.host.specs.declared.HostSubmitted.{HostSubmitted}
+use Rattle.host.specs.declared.HostBlocked.{HostBlocked}
 use Rattle.host.specs.declared.HostReplayed.{HostReplayed}
 use Rattle.host.specs.declared.HostStopped.{HostStopped}
 use Rattle.host.specs.declared.HostSnapped.{HostSnapped}
 use Rattle.host.specs.declared.HostMetrics.{HostMetrics}
 use Rattle.host.specs.Kept.{isKind, kindOf, sessionOf, hostOf}
 use Rattle.host.specs.Arguments.{isSubmission, submissionOf, isAt, atOf, isSnapshot, snapshotOf}
-use Rattle.host.specs.Answers.{saysBy, turned, weighHost, unless as unlessHost, answeredBy, loadedBy, openedBy, submittedBy, replayedBy, stoppedBy, snappedBy, meteredBy}
+use Rattle.host.specs.Answers.{saysBy, turned, weighHost, unless as unlessHost, answeredBy, loadedBy, openedBy, submittedBy, blockedBy, replayedBy, stoppedBy, snappedBy, meteredBy}
 use Rattle.host.specs.Calls.{openHost, loadHost, retireHost, submitHost, transitionHost, replayHost, blockHost, startCaptureHost, stopCaptureHost, snapshotHost, applyHost, metricsHost}
 use Rattle.host.proofs.Round.{there-and-back, snapshot-back}
 use Rattle.host.proofs.Refusals.{withStore, withStores, turned-matches, turned-same}
 
 -- ---- what a host reads, in the rules' terms
 
--- a call that gives no value: retire, block, start capture, apply snapshot,
+-- a call that gives no value: retire, start capture, apply snapshot,
 abbrev pub readAnswered : HostAnswered → Says (Unit {0}) × Session
 readAnswered r = (saysBy (r .refusal) tt, sessionOf (r .session))
 
@@ -82,6 +84,13 @@ readSubmitted r = (saysBy (r .refusal) (r .number), sessionOf (r .session))
 
 abbrev pub toldSubmitted : SubmitAnswered → Says ℕ × Session
 toldSubmitted r = (saysSubmit (r .answer), r .session)
+
+-- the passes made: block,
+abbrev pub readBlocked : HostBlocked → Says ℕ × Session
+readBlocked r = (saysBy (r .refusal) (r .passes), sessionOf (r .session))
+
+abbrev pub toldBlocked : BlockAnswered → Says ℕ × Session
+toldBlocked r = (saysBlock (r .answer), r .session)
 
 -- a report: replay,
 abbrev pub readReplayed : HostReplayed → Says Report × Session
@@ -228,10 +237,10 @@ module _ (h : HostSession) (q c : List ℕ) where
 
   -- a block,
   pub block-under : (pool out : List Float) → weighHost h q c true ≡ 0
-      → withStore readAnswered (blockHost h q c pool out) ≡ withStore toldAnswered (blockOf (sessionOf h) q c pool out)
+      → withStore readBlocked (blockHost h q c pool out) ≡ withStore toldBlocked (blockOf (sessionOf h) q c pool out)
   unfolding blockHost blockOf
   block-under pool out e =
-      under (withStore (answeredBy h)) (withStore readAnswered) (withStore toldAnswered) _ _ _ _ _ e
+      under (withStore (blockedBy h)) (withStore readBlocked) (withStore toldBlocked) _ _ _ _ _ e
       (λ k w. rw (number-says, leaves h _ k (block-other (sessionOf h) q c pool out) w))
       (rw there-and-back)
 

@@ -12,6 +12,8 @@ use Rattle.session.specs.Refusal.{numberOf}
 use Rattle.session.specs.Answer.{Says}
 use Rattle.session.specs.Answer as rules
 use Rattle.session.specs.WellFormed.{wellFormed}
+use Rattle.block.specs.declared.BlockAnswer.{BlockAnswer}
+use Rattle.block.specs.declared.BlockAnswered.{BlockAnswered}
 use Rattle.clips.specs.declared.LoadAnswer.{LoadAnswer}
 use Rattle.clips.specs.declared.LoadAnswered.{LoadAnswered}
 use Rattle.submission.specs.declared.Report.{Report}
@@ -32,6 +34,7 @@ use Rattle.host.specs.declared.HostSnapshot.{HostSnapshot}
 use Rattle.host.specs.declared.HostAnswered.{HostAnswered}
 use Rattle.host.specs.declared.HostLoaded.{HostLoaded}
 use Rattle.host.specs.declared.HostSubmitted.{HostSubmitted}
+use Rattle.host.specs.declared.HostBlocked.{HostBlocked}
 use Rattle.host.specs.declared.HostReplayed.{HostReplayed}
 use Rattle.host.specs.declared.HostStopped.{HostStopped}
 use Rattle.host.specs.declared.HostSnapped.{HostSnapped}
@@ -56,6 +59,7 @@ withDropped h n =
       position = h .position;
       cursor = h .cursor;
       looped = h .looped;
+      laps = h .laps;
       song = h .song;
       master = h .master;
       tail = h .tail;
@@ -82,7 +86,7 @@ unfoldable pub unless {ℓ} : {A : Type ℓ} → ℕ → (ℕ → A) → A → A
 unless zero refused done = done
 unless (suc n) refused done = refused (suc n)
 
--- ---- no value: retire, block, start capture, apply snapshot
+-- ---- no value: retire, start capture, apply snapshot
 
 abbrev pub answered : ℕ → HostSession → HostAnswered
 answered n h = record { refusal = n; session = h }
@@ -130,6 +134,21 @@ submittedWith h (SubmitAnswer.Refused k) t = submitRefused h (numberOf k)
 
 abbrev pub submittedBy : HostSession → SubmitAnswered → HostSubmitted
 submittedBy h r = submittedWith h (r .answer) (hostOf (r .session))
+
+-- ---- the passes made: block
+
+abbrev pub blocked : ℕ → ℕ → HostSession → HostBlocked
+blocked n x h = record { refusal = n; passes = x; session = h }
+
+abbrev pub blockRefused : HostSession → ℕ → HostBlocked
+blockRefused h n = blocked n 0 (turned n h)
+
+abbrev pub blockedWith : HostSession → BlockAnswer → HostSession → HostBlocked
+blockedWith h (BlockAnswer.Done x) t = blocked 0 x t
+blockedWith h (BlockAnswer.Refused k) t = blockRefused h (numberOf k)
+
+abbrev pub blockedBy : HostSession → BlockAnswered → HostBlocked
+blockedBy h r = blockedWith h (r .answer) (hostOf (r .session))
 
 -- ---- a report: replay
 

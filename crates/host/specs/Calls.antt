@@ -6,7 +6,6 @@ use lib.Ieee.{Float}
 use Rattle.counts.specs.declared.SongFrame.{SongFrame}
 use Rattle.counts.specs.declared.Handle.{Handle}
 use Rattle.stage.specs.declared.Settings.{Settings}
-use Rattle.session.specs.declared.Answered.{Answered}
 use Rattle.clips.specs.declared.LoadAnswered.{LoadAnswered}
 use Rattle.clips.specs.Open.{openOf}
 use Rattle.clips.specs.Load.{loadOf}
@@ -16,6 +15,7 @@ use Rattle.submission.specs.declared.ReplayAnswered.{ReplayAnswered}
 use Rattle.submission.specs.Submit.{submitOf}
 use Rattle.submission.specs.Transition.{transitionOf}
 use Rattle.submission.specs.Replay.{replayOf}
+use Rattle.block.specs.declared.BlockAnswered.{BlockAnswered}
 use Rattle.block.specs.Block.{blockOf}
 use Rattle.control.specs.declared.StopAnswered.{StopAnswered}
 use Rattle.control.specs.Capture.{startCaptureOf, stopCaptureOf}
@@ -28,13 +28,14 @@ use Rattle.host.specs.declared.HostSnapshot.{HostSnapshot}
 use Rattle.host.specs.declared.HostAnswered.{HostAnswered}
 use Rattle.host.specs.declared.HostLoaded.{HostLoaded}
 use Rattle.host.specs.declared.HostSubmitted.{HostSubmitted}
+use Rattle.host.specs.declared.HostBlocked.{HostBlocked}
 use Rattle.host.specs.declared.HostReplayed.{HostReplayed}
 use Rattle.host.specs.declared.HostStopped.{HostStopped}
 use Rattle.host.specs.declared.HostSnapped.{HostSnapped}
 use Rattle.host.specs.declared.HostMetrics.{HostMetrics}
 use Rattle.host.specs.Kept.{isKind, kindOf, sessionOf}
 use Rattle.host.specs.Arguments.{isSubmission, submissionOf, isAt, atOf, isSnapshot, snapshotOf}
-use Rattle.host.specs.Answers.{weighHost, unless, refused, answeredBy, loadRefused, loadedBy, openedBy, submitRefused, submittedBy, replayRefused, replayedBy, stopRefused, stoppedBy, snapshotRefused, snappedBy, metricsRefused, meteredBy}
+use Rattle.host.specs.Answers.{weighHost, unless, refused, answeredBy, loadRefused, loadedBy, openedBy, submitRefused, submittedBy, blockRefused, blockedBy, replayRefused, replayedBy, stopRefused, stoppedBy, snapshotRefused, snappedBy, metricsRefused, meteredBy}
 
 -- answer and session; pool
 unfoldable pub openHost : Settings → List ℕ → List ℕ → List Float → List Float → ℕ → SongFrame → HostLoaded × List Float
@@ -70,10 +71,10 @@ replayHost h q c list =
     unless (weighHost h q c true) (λ n. (replayRefused h n, q)) (replayedBy h (z .0), z .1)
 
 -- answer and session; output
-unfoldable pub blockHost : HostSession → List ℕ → List ℕ → List Float → List Float → HostAnswered × List Float
+unfoldable pub blockHost : HostSession → List ℕ → List ℕ → List Float → List Float → HostBlocked × List Float
 blockHost h q c pool out =
-    let z : Answered × List Float = blockOf (sessionOf h) q c pool out in
-    unless (weighHost h q c true) (λ n. (refused h n, out)) (answeredBy h (z .0), z .1)
+    let z : BlockAnswered × List Float = blockOf (sessionOf h) q c pool out in
+    unless (weighHost h q c true) (λ n. (blockRefused h n, out)) (blockedBy h (z .0), z .1)
 
 unfoldable pub startCaptureHost : HostSession → List ℕ → List ℕ → HostAnswered
 startCaptureHost h q c = unless (weighHost h q c true) (refused h) (answeredBy h (startCaptureOf (sessionOf h) q c))

@@ -120,7 +120,7 @@ stageOf h =
       clock = h .clock;
       playhead =
           record {
-            transport = record { state = stateOf (h .state); position = h .position; cursor = h .cursor; looped = loopOf (h .looped) };
+            transport = record { state = stateOf (h .state); position = h .position; cursor = h .cursor; looped = loopOf (h .looped); laps = h .laps };
             song = h .song;
           };
       sound = record { master = h .master; fade = record { tail = tailOf (h .tail) }; voices = h .voices };
@@ -158,6 +158,7 @@ hostOf s =
       position = s .stage .playhead .transport .position;
       cursor = s .stage .playhead .transport .cursor;
       looped = loopNumbers (s .stage .playhead .transport .looped);
+      laps = s .stage .playhead .transport .laps;
       song = s .stage .playhead .song;
       master = s .stage .sound .master;
       tail = tailNumbers (s .stage .sound .fade .tail);
@@ -222,6 +223,7 @@ tidy h =
       position = h .position;
       cursor = h .cursor;
       looped = tidyLoop (h .looped);
+      laps = h .laps;
       song = h .song;
       master = h .master;
       tail = tidyTail (h .tail);

@@ -7,11 +7,12 @@ ghost use lib.Ieee.{Float};
 ghost use Rattle.bank.specs.declared.Clip.{Clip};
 ghost use Rattle.host.specs.Kept.{isKind, kindOf, kindNumber, clipOf, clipNumbers, isState, stateOf, stateNumber, isFlag, flagOf, flagNumber, loopOf, loopNumbers, tailOf, tailNumbers, slotNamed, kindsOk, isSession, stageOf, sessionOf, hostOf};
 ghost use Rattle.host.specs.Arguments.{isSubmission, submissionOf, isAt, atOf, isSnapshot, snapshotOf, snapshotNumbers};
-ghost use Rattle.host.specs.Answers.{turned, weighHost, refused, answeredBy, loadRefused, loadedBy, openedBy, submitRefused, submittedBy, replayRefused, replayedBy, stopRefused, stoppedBy, noSnapshot, snapshotRefused, snappedBy, noMetrics, metricsRefused, meteredBy};
+ghost use Rattle.host.specs.Answers.{turned, weighHost, refused, answeredBy, loadRefused, loadedBy, openedBy, submitRefused, submittedBy, blockRefused, replayRefused, replayedBy, stopRefused, stoppedBy, noSnapshot, snapshotRefused, snappedBy, noMetrics, metricsRefused, meteredBy};
 ghost use Rattle.host.specs.Calls.{openHost, loadHost, retireHost, submitHost, transitionHost, replayHost, blockHost, startCaptureHost, stopCaptureHost, snapshotHost, applyHost, metricsHost};
 use bank::Bank;
 use bank::Clip;
 use bank::Kind;
+use block::BlockAnswer;
 use clips::LoadAnswer;
 use clips::LoadAnswered;
 use control::MetricsAnswer;
@@ -98,6 +99,7 @@ pub struct HostSession {
     pub position: SongFrame,
     pub cursor: SongFrame,
     pub looped: HostLoop,
+    pub laps: u64,
     pub song: Handle,
     pub master: Ramp,
     pub tail: HostTail,
@@ -154,6 +156,13 @@ pub struct HostLoaded {
 pub struct HostSubmitted {
     pub refusal: u32,
     pub number: u64,
+    pub session: HostSession,
+}
+
+#[repr(C)]
+pub struct HostBlocked {
+    pub refusal: u32,
+    pub passes: u64,
     pub session: HostSession,
 }
 
@@ -423,6 +432,7 @@ fn stage_of(h: HostSession) -> Stage
         position,
         cursor,
         looped: loop_of(looped),
+        laps: h.laps,
     };
     let song = h.song;
     let playhead = Playhead { transport, song };
@@ -515,6 +525,7 @@ fn kept(
         position,
         cursor,
         looped: loop_numbers(looped),
+        laps: transport.laps,
         song,
         master,
         tail: tail_numbers(tail),
@@ -736,6 +747,16 @@ fn submitted(h: HostSession, r: SubmitAnswered) -> HostSubmitted
             session: host_of(s),
         },
         SubmitAnswer::Refused(k) => submit_refused(k.number(), h),
+    }
+}
+
+fn block_refused(number: u32, h: HostSession) -> HostBlocked
+    ensures { λ r. ⌜ r ≡ blockRefused h number ⌝ }
+{
+    HostBlocked {
+        refusal: number,
+        passes: 0,
+        session: turned(number, h),
     }
 }
 
@@ -1006,8 +1027,8 @@ pub extern "C" fn threshreed_block(
     capture: &[u64],
     pool: &[f32],
     out: &mut [f32],
-) -> HostAnswered
-    ensures { λ r. ⌜ _≡_ {A = HostAnswered × List Float} (r, now (out .exit)) (blockHost h (now (queue .entry)) (now (capture .entry)) (now (pool .entry)) (now (out .entry))) ⌝ }
+) -> HostBlocked
+    ensures { λ r. ⌜ _≡_ {A = HostBlocked × List Float} (r, now (out .exit)) (blockHost h (now (queue .entry)) (now (capture .entry)) (now (pool .entry)) (now (out .entry))) ⌝ }
 {
     let c = h.clips[0];
     let first = clip_of(c);
@@ -1028,7 +1049,7 @@ pub extern "C" fn threshreed_block(
         i += 1;
     }
     if !all_named(kinds, h.state, h.looped.set, h.tail.sounding, h.capturing) {
-        return refused(1, h);
+        return block_refused(1, h);
     }
     let settings = h.settings;
     let stage = stage_of(h);
@@ -1047,8 +1068,9 @@ pub extern "C" fn threshreed_block(
     let answer = made.answer;
     let next = made.stage;
     match answer {
-        Answer::Done => HostAnswered {
+        BlockAnswer::Done(passes) => HostBlocked {
             refusal: 0,
+            passes,
             session: kept(
                 settings,
                 bank.used,
@@ -1059,7 +1081,7 @@ pub extern "C" fn threshreed_block(
                 desk,
             ),
         },
-        Answer::Refused(k) => refused(k.number(), h),
+        BlockAnswer::Refused(k) => block_refused(k.number(), h),
     }
 }
 

@@ -23,6 +23,7 @@ use Rattle.stage.specs.declared.Stage.{Stage}
 use Rattle.session.specs.declared.Session.{Session}
 use Rattle.session.specs.declared.Answered.{Answered}
 use Rattle.session.proofs.Refuse.{unless-both}
+use Rattle.block.specs.declared.BlockAnswered.{BlockAnswered}
 use Rattle.block.specs.Block.{blockOf}
 use Rattle.clips.specs.declared.LoadAnswered.{LoadAnswered}
 use Rattle.clips.specs.Load.{loadOf}
@@ -60,7 +61,7 @@ changes (retire h) x g =
     (λ fine. retires h (retire.accepted (x .session) (x .queue) (x .capture) h fine .alive) refl refl)
 changes (submit y at) x g = heart-none x _ _ _ (submit-leaves (x .session) (x .queue) (x .capture) y at)
 changes (transition f at) x g = heart-none x _ _ _ (transition-leaves (x .session) (x .queue) (x .capture) f at)
-changes (block out) x g = unless-both {A = Answered × List Float} _ _ _ (λ a. Changes x (withSession x (a .0 .session))) (λ k. none refl refl) (λ fine. none refl refl)
+changes (block out) x g = unless-both {A = BlockAnswered × List Float} _ _ _ (λ a. Changes x (withSession x (a .0 .session))) (λ k. none refl refl) (λ fine. none refl refl)
 changes startCapture x g = heart-none x _ _ _ (start-leaves (x .session) (x .queue) (x .capture))
 changes (stopCapture list) x g = heart-none x _ _ _ (stop-leaves (x .session) (x .queue) (x .capture) list)
 changes (replay list) x g = heart-none x _ _ _ (replay-leaves (x .session) (x .queue) (x .capture) list)

@@ -16,16 +16,15 @@ use Rattle.timeline.specs.Queue.{queue}
 use Rattle.transport.specs.declared.At.{At}
 use Rattle.bank.specs.Sample.{framesOf}
 use Rattle.bank.specs.Recording.{View, viewOf}
-use Rattle.oneshot.specs.declared.Pair.{Pair}
 use Rattle.stage.specs.declared.Settings.{Settings}
 use Rattle.stage.specs.declared.Stage.{Stage}
-use Rattle.stage.specs.Machine.{Told, machineOf}
+use Rattle.stage.specs.Machine.{Told, FrameMade, machineOf}
 use Rattle.stage.proofs.Clock.{clocked}
 use Rattle.session.specs.declared.Session.{Session}
-use Rattle.session.specs.declared.Answered.{Answered}
 use Rattle.session.specs.WellFormed.{wellFormed}
 use Rattle.session.proofs.Refuse.{unless-both}
-use Rattle.block.specs.Block.{weighBlock, ranOf, blockDone, blockOf}
+use Rattle.block.specs.declared.BlockAnswered.{BlockAnswered}
+use Rattle.block.specs.Block.{weighBlock, ranOf, blockDone, blockOf, reported}
 use Rattle.block.proofs.Queue.{queue-ran}
 use Rattle.submission.specs.Submit.{submitOf}
 use Rattle.submission.specs.Order.{accepted, waiting, recorded, exchanged, lastExchanged}
@@ -45,11 +44,11 @@ module _ (a b : ℕ) where
 
   -- a stage's block over the exchanged records is the block, with what it leaves queued exchanged
   stage-exchanged : (x : Settings) (view : View) (n : ℕ) (s : Stage) (l : List QueueRecord)
-      → let m : Machine Stage QueueRecord Pair Told = machineOf x view in
-      let r : Ran Stage QueueRecord Pair Told = blockFrom m n (stand s l) in
+      → let m : Machine Stage QueueRecord FrameMade Told = machineOf x view in
+      let r : Ran Stage QueueRecord FrameMade Told = blockFrom m n (stand s l) in
       blockFrom m n (stand s (map (exchanged a b) l)) ≡ ran (stand (r .at .core) (map (exchanged a b) (r .at .queue))) (r .made) (map toldBy (r .told))
   stage-exchanged x view n s l =
-      let m : Machine Stage QueueRecord Pair Told = machineOf x view in
+      let m : Machine Stage QueueRecord FrameMade Told = machineOf x view in
       block-mapped (λ c. c) (λ p. p) toldBy (λ c. Unit {0}) (λ d d'. d' ≡ exchanged a b d) m m
       (record {
         clocks = λ c p. refl;
@@ -65,7 +64,7 @@ module _ (a b : ℕ) where
 
   module _ (s : Session) (q r c d : List ℕ) (pool : List Float) (e : waiting s q ≡ map (exchanged a b) (waiting s r)) where
     -- n frames over two stores whose records are so exchanged
-    ran-exchanged : (n : ℕ) → let z : Ran Stage QueueRecord Pair Told = ranOf s r pool n in
+    ran-exchanged : (n : ℕ) → let z : Ran Stage QueueRecord FrameMade Told = ranOf s r pool n in
         ranOf s q pool n ≡ ran (stand (z .at .core) (map (exchanged a b) (z .at .queue))) (z .made) (map toldBy (z .told))
     unfolding ranOf
     ran-exchanged n =
@@ -87,7 +86,7 @@ module _ (a b : ℕ) where
         → let z : Session = blockOf s r d pool out .0 .session in waiting z q ≡ map (exchanged a b) (waiting z r)
     unfolding blockOf
     queue-exchanged out =
-        unless-both {A = Answered × List Float} _ _ _ (λ z. waiting (z .0 .session) q ≡ map (exchanged a b) (waiting (z .0 .session) r)) (λ k. e) (λ fine. left (framesOf out))
+        unless-both {A = BlockAnswered × List Float} _ _ _ (λ z. waiting (z .0 .session) q ≡ map (exchanged a b) (waiting (z .0 .session) r)) (λ k. e) (λ fine. left (framesOf out))
       where
         left : (n : ℕ) → queue q (length (ranOf s r pool n .at .queue)) ≡ map (exchanged a b) (queue r (length (ranOf s r pool n .at .queue)))
         left n = rw (ran-exchanged n, length-map) at (queue-ran s q pool n) ∙ ap (map (exchanged a b)) (sym (queue-ran s r pool n))
@@ -97,7 +96,7 @@ module _ (a b : ℕ) where
       → let z : Session = blockOf s r d pool out .0 .session in recorded z c ≡ lastExchanged (map (exchanged a b) (recorded z d))
   unfolding blockOf
   capture-exchanged s r c d pool e out =
-      unless-both {A = Answered × List Float} _ _ _ (λ z. recorded (z .0 .session) c ≡ lastExchanged (map (exchanged a b) (recorded (z .0 .session) d))) (λ k. e) (λ fine. e)
+      unless-both {A = BlockAnswered × List Float} _ _ _ (λ z. recorded (z .0 .session) c ≡ lastExchanged (map (exchanged a b) (recorded (z .0 .session) d))) (λ k. e) (λ fine. e)
 
   -- ---- later blocks
 
@@ -119,7 +118,7 @@ module _ (a b : ℕ) where
     step-exchanged : Exchanged a b (after (block out) x) (after (block out) y)
     step-exchanged =
         record {
-          session = ap (λ (z : Answered × List Float). z .0 .session) step-same;
+          session = ap (λ (z : BlockAnswered × List Float). z .0 .session) step-same;
           pool = e .pool;
           queue = rw step-same (queue-exchanged (y .session) (x .queue) (y .queue) (x .capture) (y .capture) (y .pool) waits out);
           capture = rw step-same (capture-exchanged (y .session) (y .queue) (x .capture) (y .capture) (y .pool) records out);
@@ -127,11 +126,12 @@ module _ (a b : ℕ) where
 
 -- blocks after blocks
 pub later-blocks : LaterBlocks
-later-blocks a b x y f g e [] = (refl, e)
+later-blocks a b x y f g e [] = (refl, refl, e)
 later-blocks a b x y f g e (out ∷ outs) =
     let r : SoundAlike a b outs (after (block out) x) (after (block out) y) =
     later-blocks a b (after (block out) x) (after (block out) y) (keeps (block out) x tt f) (keeps (block out) y tt g) (step-exchanged a b x y f g e out) outs in
-    (ap₂ _++_ (ap (λ (z : Answered × List Float). z .1) (step-same a b x y f g e out)) (r .0), r .1)
+    let s = step-same a b x y f g e out in
+    (ap₂ _++_ (ap (λ (z : BlockAnswered × List Float). z .1) s) (r .0), ap₂ _∷_ (ap (λ (z : BlockAnswered × List Float). reported (z .0 .answer)) s) (r .1), r .2)
 
 -- ---- either order
 

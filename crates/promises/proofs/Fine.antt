@@ -9,11 +9,11 @@ use Rattle.timeline.specs.declared.Submission.{Submission}
 use Rattle.transport.specs.declared.At.{At}
 use Rattle.session.specs.declared.Refusal.{Refusal}
 use Rattle.session.specs.declared.Weighed.{Weighed}
-use Rattle.session.specs.declared.Answered.{Answered}
 use Rattle.session.specs.Refusal.{numberOf, unless}
 use Rattle.session.specs.Answer.{says}
 use Rattle.session.proofs.Refuse.{number-some, refused-or-done}
-use Rattle.block.specs.Block.{blockOf}
+use Rattle.block.specs.declared.BlockAnswered.{BlockAnswered}
+use Rattle.block.specs.Block.{saysBlock, blockOf}
 use Rattle.block.proofs.Weigh.{Accepted, accepted, block-done}
 use Rattle.submission.specs.declared.SubmitAnswer.{SubmitAnswer}
 use Rattle.submission.specs.declared.SubmitAnswered.{SubmitAnswered}
@@ -36,7 +36,7 @@ module _ (x : State) (out : List Float) where
   pub block-accepts : refusal (block out) x ≡ 0 → Accepted (x .session) (x .queue) (x .capture) (x .pool) out
   unfolding blockOf
   block-accepts e =
-      accepted (x .session) (x .queue) (x .capture) (x .pool) out (zero-fine {A = Answered × List Float} _ _ _ (λ z. code (says (z .0 .answer))) (λ k. refl) e)
+      accepted (x .session) (x .queue) (x .capture) (x .pool) out (zero-fine {A = BlockAnswered × List Float} _ _ _ (λ z. code (saysBlock (z .0 .answer))) (λ k. refl) e)
 
   -- and one that is accepted says 0
   pub block-says : Accepted (x .session) (x .queue) (x .capture) (x .pool) out → refusal (block out) x ≡ 0

@@ -11,8 +11,8 @@ use Rattle.timeline.specs.Queue.{frame}
 use Rattle.bank.specs.Sample.{framesOf}
 use Rattle.bank.specs.Recording.{viewOf}
 use Rattle.stage.specs.declared.Tail.{Tail}
-use Rattle.session.specs.declared.Answered.{Answered}
-use Rattle.session.specs.Answer.{says}
+use Rattle.block.specs.declared.BlockAnswered.{BlockAnswered}
+use Rattle.block.specs.Block.{saysBlock, reported}
 use Rattle.block.proofs.Pools.{SameTail, SameClaim, block-agrees-on}
 use Rattle.submission.specs.Order.{waiting}
 use Rattle.promises.specs.Calls.{State, code}
@@ -39,4 +39,4 @@ nothing-else x pool out r =
           (λ (y : QueueRecord). frame y < x .session .stage .clock .0 + framesOf out → SameClaim (viewOf (x .pool) (x .session .bank)) (viewOf pool (x .session .bank)) (claimOf (y .command)))
           (λ y f l. claim-same x pool (claimOf (y .command)) (f l)) (waiting (x .session) (x .queue)) (r .named);
     }) in
-    (ap (λ (z : Answered × List Float). z .1) e, ap (λ (z : Answered × List Float). code (says (z .0 .answer))) e, ap (λ (z : Answered × List Float). z .0 .session) e)
+    (ap (λ (z : BlockAnswered × List Float). z .1) e, ap (λ (z : BlockAnswered × List Float). reported (z .0 .answer)) e, ap (λ (z : BlockAnswered × List Float). code (saysBlock (z .0 .answer))) e, ap (λ (z : BlockAnswered × List Float). z .0 .session) e)

@@ -32,12 +32,13 @@ use Rattle.host.specs.declared.HostSession.{HostSession}
 use Rattle.host.specs.declared.HostAnswered.{HostAnswered}
 use Rattle.host.specs.declared.HostLoaded.{HostLoaded}
 use Rattle.host.specs.declared.HostSubmitted.{HostSubmitted}
+use Rattle.host.specs.declared.HostBlocked.{HostBlocked}
 use Rattle.host.specs.declared.HostReplayed.{HostReplayed}
 use Rattle.host.specs.declared.HostStopped.{HostStopped}
 use Rattle.host.specs.declared.HostSnapped.{HostSnapped}
 use Rattle.host.specs.declared.HostMetrics.{HostMetrics}
 use Rattle.host.specs.Kept.{kindsOk, isSession, hostOf}
-use Rattle.host.specs.Answers.{saysBy, withDropped, turned, weighHost, unless as unlessHost, refused as refusedHost, answeredBy, loadRefused, loadedBy, openedBy, submitRefused, submittedBy, replayRefused, replayedBy, stopRefused, stoppedBy, snapshotRefused, snappedBy, metricsRefused, meteredBy}
+use Rattle.host.specs.Answers.{saysBy, withDropped, turned, weighHost, unless as unlessHost, refused as refusedHost, answeredBy, loadRefused, loadedBy, openedBy, submitRefused, submittedBy, blockRefused, blockedBy, replayRefused, replayedBy, stopRefused, stoppedBy, snapshotRefused, snappedBy, metricsRefused, meteredBy}
 use Rattle.host.specs.Calls.{openHost, loadHost, retireHost, submitHost, transitionHost, replayHost, blockHost, startCaptureHost, stopCaptureHost, snapshotHost, applyHost, metricsHost}
 use Rattle.host.proofs.Round.{names}
 use Rattle.host.proofs.Refusals.{withStore, withStores, turned-same, weighed-fine, weighed-unnamed, each-way, load-stays, retire-stays, submit-stays, transition-stays, replay-stays, block-stays, start-stays, stop-stays, snapshot-stays, apply-stays, metrics-stays}
@@ -59,7 +60,7 @@ after-refused (hosts.submit y at) x n =
     ap (λ (z : HostSubmitted × List ℕ × List ℕ). hostState (z .0 .session) (z .1) (z .2) (x .pool)) (submit-stays (x .session) (x .queue) (x .capture) y at n)
 after-refused (hosts.transition f at) x n =
     ap (λ (z : HostSubmitted × List ℕ × List ℕ). hostState (z .0 .session) (z .1) (z .2) (x .pool)) (transition-stays (x .session) (x .queue) (x .capture) f at n)
-after-refused (hosts.block out) x n = ap (λ (z : HostAnswered × List Float). keeping x (z .0 .session)) (block-stays (x .session) (x .queue) (x .capture) (x .pool) out n)
+after-refused (hosts.block out) x n = ap (λ (z : HostBlocked × List Float). keeping x (z .0 .session)) (block-stays (x .session) (x .queue) (x .capture) (x .pool) out n)
 after-refused hosts.startCapture x n = ap (λ (z : HostAnswered). keeping x (z .session)) (start-stays (x .session) (x .queue) (x .capture) n)
 after-refused (hosts.stopCapture list) x n = ap (λ (z : HostStopped × List ℕ). keeping x (z .0 .session)) (stop-stays (x .session) (x .queue) (x .capture) list n)
 after-refused (hosts.replay list) x n =
@@ -109,10 +110,10 @@ does (hosts.transition f at) x w =
 does (hosts.block out) x w =
     let e = block-under (x .session) (x .queue) (x .capture) (x .pool) out w in
     record {
-      answer = ap (λ (z : (Says (Unit {0}) × Session) × List Float). z .0 .0) e;
-      number = code-by _ _ ∙ ap (λ (z : (Says (Unit {0}) × Session) × List Float). code (z .0 .0)) e;
-      state = ap (λ (z : (Says (Unit {0}) × Session) × List Float). withSession (stateOf x) (z .0 .1)) e;
-      output = ap (λ (z : (Says (Unit {0}) × Session) × List Float). z .1) e;
+      answer = ap (λ (z : (Says ℕ × Session) × List Float). z .0 .0) e;
+      number = code-by _ _ ∙ ap (λ (z : (Says ℕ × Session) × List Float). code (z .0 .0)) e;
+      state = ap (λ (z : (Says ℕ × Session) × List Float). withSession (stateOf x) (z .0 .1)) e;
+      output = ap (λ (z : (Says ℕ × Session) × List Float). z .1) e;
     }
 does hosts.startCapture x w =
     let e = start-under (x .session) (x .queue) (x .capture) w in
@@ -180,7 +181,7 @@ names-after (hosts.transition f at) x e =
     (λ m. turned-names m h e) (λ k. turned-names (numberOf k) h e) (names _)
 names-after (hosts.block out) x e =
     let h : HostSession = x .session in
-    each-way (λ (z : HostAnswered × List Float). isSession (z .0 .session) ≡ true) (λ n. (refusedHost h n, out)) (withStore (answeredBy h)) _ _ _ _
+    each-way (λ (z : HostBlocked × List Float). isSession (z .0 .session) ≡ true) (λ n. (blockRefused h n, out)) (withStore (blockedBy h)) _ _ _ _
     (λ m. turned-names m h e) (λ k. turned-names (numberOf k) h e) (names _)
 names-after hosts.startCapture x e =
     let h : HostSession = x .session in
@@ -283,7 +284,7 @@ pub host-refused : HostRefused
 host-refused =
     record {
       state = after-refused;
-      output = λ x out n. ap (λ (z : HostAnswered × List Float). z .1) (block-stays (x .session) (x .queue) (x .capture) (x .pool) out n);
+      output = λ x out n. ap (λ (z : HostBlocked × List Float). z .1) (block-stays (x .session) (x .queue) (x .capture) (x .pool) out n);
       list = λ x list n. ap (λ (z : HostStopped × List ℕ). z .1) (stop-stays (x .session) (x .queue) (x .capture) list n);
       opening = λ o n. (refl, refl, ap (λ (x : State). x .pool) (open-does o .state) ∙ refused .opening o (λ (z : opened o .0 ≡ 0). n (open-does o .number ∙ z)) .2);
     }

@@ -15,6 +15,7 @@ use Rattle.session.specs.declared.Answered.{Answered}
 use Rattle.session.specs.WellFormed.{wellFormed}
 use Rattle.session.proofs.Typed.{Typed}
 use Rattle.session.proofs.Refuse.{unless-both}
+use Rattle.block.specs.declared.BlockAnswered.{BlockAnswered}
 use Rattle.block.specs.Block.{blockOf}
 use Rattle.block.proofs.Weigh.{accepted}
 use Rattle.block.proofs.Kept.{block-came, call-keeps}
@@ -63,12 +64,12 @@ apply-settings s q c y = unless-both {A = Answered} _ _ _ (λ z. z .session .set
 module _ (s : Session) (q c : List ℕ) (pool out : List Float) where
   block-settings : blockOf s q c pool out .0 .session .settings ≡ s .settings
   unfolding blockOf
-  block-settings = unless-both {A = Answered × List Float} _ _ _ (λ z. z .0 .session .settings ≡ s .settings) (λ k. refl) (λ fine. refl)
+  block-settings = unless-both {A = BlockAnswered × List Float} _ _ _ (λ z. z .0 .session .settings ≡ s .settings) (λ k. refl) (λ fine. refl)
 
   block-typed : wellFormed s q c ≡ true → Typed s → Typed (blockOf s q c pool out .0 .session)
   unfolding blockOf
   block-typed formed t =
-      unless-both {A = Answered × List Float} _ _ _ (λ z. Typed (z .0 .session)) (λ k. t)
+      unless-both {A = BlockAnswered × List Float} _ _ _ (λ z. Typed (z .0 .session)) (λ k. t)
       (λ fine. record { bank = t .bank; voices = block-came s q c pool formed (t .voices) (framesOf out) (accepted s q c pool out fine .clock) .stands .places })
 
 -- every call keeps a state good

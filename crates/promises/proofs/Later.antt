@@ -16,19 +16,17 @@ use Rattle.transport.specs.declared.At.{At}
 use Rattle.bank.specs.declared.Bank.{Bank}
 use Rattle.bank.specs.Sample.{framesOf}
 use Rattle.bank.specs.Recording.{View, viewOf}
-use Rattle.oneshot.specs.declared.Pair.{Pair}
 use Rattle.stage.specs.declared.Settings.{Settings}
 use Rattle.stage.specs.declared.Stage.{Stage}
-use Rattle.stage.specs.Machine.{Told, machineOf, outputOf}
+use Rattle.stage.specs.Machine.{Told, FrameMade, machineOf, outputOf, passesOf as passesIn}
 use Rattle.session.specs.declared.Session.{Session}
 use Rattle.session.specs.declared.Refusal.{Refusal}
 use Rattle.session.specs.declared.Weighed.{Weighed}
-use Rattle.session.specs.declared.Answer.{Answer}
-use Rattle.session.specs.declared.Answered.{Answered}
-use Rattle.session.specs.Answer.{answered}
 use Rattle.session.specs.Refusal.{unless}
 use Rattle.session.specs.Session.{withStage}
-use Rattle.block.specs.Block.{weighBlock, ranOf, blockDone, blockOf}
+use Rattle.block.specs.declared.BlockAnswer.{BlockAnswer}
+use Rattle.block.specs.declared.BlockAnswered.{BlockAnswered}
+use Rattle.block.specs.Block.{blockAnswered, weighBlock, ranOf, blockDone, blockOf, reported}
 use Rattle.block.proofs.Weigh.{Accepted, block-done}
 use Rattle.block.proofs.Queue.{queue-ran}
 use Rattle.submission.specs.declared.SubmitAnswered.{SubmitAnswered}
@@ -37,7 +35,7 @@ use Rattle.submission.specs.Order.{waiting, shallow, thenBlock, AlikeButDeepest
 use Rattle.submission.proofs.Later.{either-side}
 use Rattle.submission.proofs.Later as submission
 use Rattle.submission.proofs.Left.{recordFor}
-use Rattle.promises.specs.Calls.{State, submit, block, withSession, refusal, after, outOf}
+use Rattle.promises.specs.Calls.{State, submit, block, withSession, refusal, after, outOf, passesOf}
 use Rattle.promises.specs.Kept.{Good}
 use Rattle.promises.specs.Later.{SameButDeepest, SoundSame, SoundOn, Later}
 use Rattle.promises.proofs.Leaves.{heart, submit-leaves}
@@ -75,8 +73,8 @@ module _ (x y : State) (f : Good x) (g : Good y) (e : SameButDeepest x y) where
   weighs-same out = rw (f .formed, g .formed, settings, stage, e .pool)
 
   -- so a block makes the same of both and leaves them the same but for the deepest depth
-  abbrev Same : Answered × List Float → Answered × List Float → Type 0
-  Same a b = (a .1 ≡ b .1) × SameButDeepest (withSession x (a .0 .session)) (withSession y (b .0 .session))
+  abbrev Same : BlockAnswered × List Float → BlockAnswered × List Float → Type 0
+  Same a b = (a .1 ≡ b .1) × (reported (a .0 .answer) ≡ reported (b .0 .answer)) × SameButDeepest (withSession x (a .0 .session)) (withSession y (b .0 .session))
 
   step-same : (out : List Float) → Same (blockOf (x .session) (x .queue) (x .capture) (x .pool) out) (blockOf (y .session) (y .queue) (y .capture) (y .pool) out)
   unfolding blockOf
@@ -84,39 +82,42 @@ module _ (x y : State) (f : Good x) (g : Good y) (e : SameButDeepest x y) where
       subst (λ (w : Weighed). Same (unless w (refused (x .session)) (blockDone (x .session) a)) (unless (weighBlock (y .session) (y .queue) (y .capture) (y .pool) out) (refused (y .session)) (blockDone (y .session) b)))
       (sym (weighs-same out))
       (both (weighBlock (y .session) (y .queue) (y .capture) (y .pool) out) (refused (x .session)) (blockDone (x .session) a) (refused (y .session)) (blockDone (y .session) b) Same
-      (λ k. (refl, e)) (made, record { session = sessions; pool = e .pool; queue = queues; capture = e .capture }))
+      (λ k. (refl, refl, e)) (made, passes, record { session = sessions; pool = e .pool; queue = queues; capture = e .capture }))
     where
       n : ℕ
       n = framesOf out
 
-      refused : Session → Refusal → Answered × List Float
-      refused s k = (answered (Answer.Refused k) s, out)
+      refused : Session → Refusal → BlockAnswered × List Float
+      refused s k = (blockAnswered (BlockAnswer.Refused k) s, out)
 
-      a : Ran Stage QueueRecord Pair Told
+      a : Ran Stage QueueRecord FrameMade Told
       a = ranOf (x .session) (x .queue) (x .pool) n
 
-      b : Ran Stage QueueRecord Pair Told
+      b : Ran Stage QueueRecord FrameMade Told
       b = ranOf (y .session) (y .queue) (y .pool) n
 
       made : blockDone (x .session) a .1 ≡ blockDone (y .session) b .1
       made = rw (ran-same n)
+
+      passes : reported (blockDone (x .session) a .0 .answer) ≡ reported (blockDone (y .session) b .0 .answer)
+      passes = rw (ran-same n)
 
       sessions : shallow (withStage (x .session) (a .at .core) (length (a .at .queue))) ≡ shallow (withStage (y .session) (b .at .core) (length (b .at .queue)))
       sessions = rw (ran-same n) (ap (λ (s : Session). withStage s (b .at .core) (length (b .at .queue))) (e .session))
 
       queues : queue (x .queue) (length (a .at .queue)) ≡ queue (y .queue) (length (b .at .queue))
       queues =
-          queue-ran (x .session) (x .queue) (x .pool) n ∙ ap (λ (r : Ran Stage QueueRecord Pair Told). r .at .queue) (ran-same n)
+          queue-ran (x .session) (x .queue) (x .pool) n ∙ ap (λ (r : Ran Stage QueueRecord FrameMade Told). r .at .queue) (ran-same n)
           ∙ sym (queue-ran (y .session) (y .queue) (y .pool) n)
 
 -- blocks after blocks
 pub sound-on : SoundOn
-sound-on x y f g e [] = (refl, e)
+sound-on x y f g e [] = (refl, refl, e)
 sound-on x y f g e (out ∷ outs) =
     let s = step-same x y f g e out in
     let r : SoundSame outs (after (block out) x) (after (block out) y) =
-    sound-on (after (block out) x) (after (block out) y) (keeps (block out) x tt f) (keeps (block out) y tt g) (s .1) outs in
-    (ap₂ _++_ (s .0) (r .0), r .1)
+    sound-on (after (block out) x) (after (block out) y) (keeps (block out) x tt f) (keeps (block out) y tt g) (s .2) outs in
+    (ap₂ _++_ (s .0) (r .0), ap₂ _∷_ (s .1) (r .1), r .2)
 
 -- ---- before and after
 
@@ -132,10 +133,10 @@ module _ (x : State) (y : Submission) (f : ClockFrame) (out : List Float) (g : G
   abbrev view : View
   view = viewOf (x .pool) (s .bank)
 
-  abbrev alone : Ran Stage QueueRecord Pair Told
+  abbrev alone : Ran Stage QueueRecord FrameMade Told
   alone = ranOf s (x .queue) (x .pool) (framesOf out)
 
-  abbrev joined : Ran Stage QueueRecord Pair Told
+  abbrev joined : Ran Stage QueueRecord FrameMade Told
   joined = ranOf (z .0 .session) (z .1) (x .pool) (framesOf out)
 
   kept : heart (z .0 .session) ≡ heart s
@@ -172,16 +173,22 @@ module _ (x : State) (y : Submission) (f : ClockFrame) (out : List Float) (g : G
 
   same-samples : outOf (after (submit y (At.Frame f)) x) out ≡ outOf x out
   same-samples =
-      ap (λ (r : Answered × List Float). r .1) (block-done (z .0 .session) (z .1) (z .2) (x .pool) out c)
-      ∙ ap (λ (r : Ran Stage QueueRecord Pair Told). outputOf (r .made)) ran-joined
-      ∙ sym (ap (λ (r : Answered × List Float). r .1) (block-done s (x .queue) (x .capture) (x .pool) out a))
+      ap (λ (r : BlockAnswered × List Float). r .1) (block-done (z .0 .session) (z .1) (z .2) (x .pool) out c)
+      ∙ ap (λ (r : Ran Stage QueueRecord FrameMade Told). outputOf (r .made)) ran-joined
+      ∙ sym (ap (λ (r : BlockAnswered × List Float). r .1) (block-done s (x .queue) (x .capture) (x .pool) out a))
+
+  same-passes : passesOf (after (submit y (At.Frame f)) x) out ≡ passesOf x out
+  same-passes =
+      ap (λ (r : BlockAnswered × List Float). reported (r .0 .answer)) (block-done (z .0 .session) (z .1) (z .2) (x .pool) out c)
+      ∙ ap (λ (r : Ran Stage QueueRecord FrameMade Told). passesIn (r .made)) ran-joined
+      ∙ sym (ap (λ (r : BlockAnswered × List Float). reported (r .0 .answer)) (block-done s (x .queue) (x .capture) (x .pool) out a))
 
   -- the two sides
   sides : AlikeButDeepest (thenBlock z (joined .at .core) (length (joined .at .queue)))
       (submitOf (withStage s (alone .at .core) (length (alone .at .queue))) (x .queue) (x .capture) y (At.Frame f))
   unfolding ranOf
   sides =
-      subst (λ (r : Ran Stage QueueRecord Pair Told). AlikeButDeepest (thenBlock z (r .at .core) (length (r .at .queue))) (submitOf (withStage s (alone .at .core) (length (alone .at .queue))) (x .queue) (x .capture) y (At.Frame f)))
+      subst (λ (r : Ran Stage QueueRecord FrameMade Told). AlikeButDeepest (thenBlock z (r .at .core) (length (r .at .queue))) (submitOf (withStage s (alone .at .core) (length (alone .at .queue))) (x .queue) (x .capture) y (At.Frame f)))
       (sym joined-is)
       (either-side s (x .queue) (x .capture) y t f (submit-accepts x y (At.Frame f) first) view (framesOf out) past
       (rw (block-done s (x .queue) (x .capture) (x .pool) out a) at (submit-accepts (after (block out) x) y (At.Frame f) then)))
@@ -197,6 +204,7 @@ later x y f out g t past b first then =
     record {
       accepted = block-says (after (submit y (At.Frame f)) x) out (c x y f out g t past b first then);
       samples = same-samples x y f out g t past b first then;
+      passes = same-passes x y f out g t past b first then;
       answer = rw e (one .answer);
       later = sound-on p q (keeps (block out) (after (submit y (At.Frame f)) x) tt (keeps (submit y (At.Frame f)) x t g)) (keeps (submit y (At.Frame f)) (after (block out) x) t (keeps (block out) x tt g))
           (record { session = rw (d, e) (one .session); pool = refl; queue = rw (d, e) (one .queue); capture = rw (d, e) (one .capture) });

@@ -1,6 +1,8 @@
 pub mod Numbers
 mod Leaves
+mod Stages
 pub mod Tail
+pub mod Laps
 pub mod Kept
 pub mod Declick
 pub mod Never

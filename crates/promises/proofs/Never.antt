@@ -23,7 +23,8 @@ use Rattle.session.specs.Refusal.{numberOf, unless}
 use Rattle.session.specs.WellFormed.{wellFormed, weighOnly}
 use Rattle.session.specs.Answer.{says}
 use Rattle.session.proofs.Refuse.{numbered, other, passes, refused-or-done}
-use Rattle.block.specs.Block.{weighBlock, blockOf}
+use Rattle.block.specs.declared.BlockAnswered.{BlockAnswered}
+use Rattle.block.specs.Block.{saysBlock, weighBlock, blockOf}
 use Rattle.clips.specs.declared.LoadAnswered.{LoadAnswered}
 use Rattle.clips.specs.Answer.{saysLoad}
 use Rattle.clips.specs.Load.{weighLoad, loadOf}
@@ -121,7 +122,7 @@ step-neither (submit y at) x g =
 step-neither (transition f at) x g =
     neither {A = SubmitAnswered × List ℕ × List ℕ} _ _ _ (λ z. code (saysSubmit (z .0 .answer))) (transition-other (x .session) (x .queue) (x .capture) (g .formed) f) (λ k. refl) refl
 step-neither (block out) x g =
-    neither {A = Answered × List Float} _ _ _ (λ z. code (says (z .0 .answer))) (block-other (x .session) (x .queue) (x .capture) (g .formed) (x .pool) (g .pooled) out) (λ k. refl) refl
+    neither {A = BlockAnswered × List Float} _ _ _ (λ z. code (saysBlock (z .0 .answer))) (block-other (x .session) (x .queue) (x .capture) (g .formed) (x .pool) (g .pooled) out) (λ k. refl) refl
 step-neither startCapture x g = neither {A = Answered} _ _ _ (λ z. code (says (z .answer))) (only-other (x .session) (x .queue) (x .capture) (g .formed)) (λ k. refl) refl
 step-neither (stopCapture list) x g =
     neither {A = StopAnswered × List ℕ} _ _ _ (λ z. code (saysStop (z .0 .answer))) (stop-other (x .session) (x .queue) (x .capture) (g .formed) list) (λ k. refl) refl

@@ -8,7 +8,7 @@ use Rattle.ramp.specs.Ramp.{msTween}
 use Rattle.timeline.specs.Record.{readable, readOf, sooner}
 use Rattle.timeline.specs.Store.{rowAt, putRow, inserted}
 use Rattle.timeline.specs.Queue.{orderedAt, entryOk, queueOk, captureOk}
-use Rattle.transport.specs.Transport.{wrapOf, cursorOn, advanceOf, stepOf}
+use Rattle.transport.specs.Transport.{wrapOf, cursorOn, advanceOf, isPast, comesRound, stepOf}
 use Rattle.transport.specs.Deadline.{distanceTo, songDeadlineOf}
 use Rattle.bank.specs.Sample.{sampleOk, samplesOk}
 use Rattle.bank.specs.Slots.{usedAt, live, standsFor, claimOk, loadedIn, emptyBank}
@@ -31,7 +31,7 @@ use Rattle.promises.specs.Numbers.{Numbers}
 
 -- the six numbers of the rules' list that are marked as proved
 pub numbers : Numbers
-unfolding add sub mul div ofInt le lt toBits ofBits run block allBelow countBelow finite msTween readable readOf sooner rowAt putRow inserted orderedAt entryOk queueOk captureOk wrapOf cursorOn advanceOf stepOf distanceTo songDeadlineOf sampleOk samplesOk usedAt live standsFor claimOk loadedIn emptyBank pasted viewOf clipOk slotOk bankOk sampleAt noVoices mixOf mixIn movedOf playheadBy playedOf withTail tailOn renderedOf soundBy countersBy frameOf executeOf first unless settingsOk numbersOk storesOk recordsOk handlesOk songOk stingersOk headsOk masterOk rampsOk countsOk wellFormed weighBlock ranOf blockOf weighOpen openOf weighCommand weighSubmit taken submitOf
+unfolding add sub mul div ofInt le lt toBits ofBits run block allBelow countBelow finite msTween readable readOf sooner rowAt putRow inserted orderedAt entryOk queueOk captureOk wrapOf cursorOn advanceOf isPast comesRound stepOf distanceTo songDeadlineOf sampleOk samplesOk usedAt live standsFor claimOk loadedIn emptyBank pasted viewOf clipOk slotOk bankOk sampleAt noVoices mixOf mixIn movedOf playheadBy playedOf withTail tailOn renderedOf soundBy countersBy frameOf executeOf first unless settingsOk numbersOk storesOk recordsOk handlesOk songOk stingersOk headsOk masterOk rampsOk countsOk wellFormed weighBlock ranOf blockOf weighOpen openOf weighCommand weighSubmit taken submitOf
 numbers =
     record {
       declick = (refl, refl, refl);

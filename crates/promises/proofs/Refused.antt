@@ -17,7 +17,8 @@ use Rattle.session.specs.Refusal.{numberOf, first, unless}
 use Rattle.session.specs.Answer.{says}
 use Rattle.session.specs.WellFormed.{wellFormed, weighOnly}
 use Rattle.session.proofs.Refuse.{stop, unless-refused, refused-or-done, unless-both}
-use Rattle.block.specs.Block.{weighBlock, blockOf}
+use Rattle.block.specs.declared.BlockAnswered.{BlockAnswered}
+use Rattle.block.specs.Block.{saysBlock, weighBlock, blockOf}
 use Rattle.clips.specs.declared.LoadAnswered.{LoadAnswered}
 use Rattle.clips.specs.Answer.{saysLoad}
 use Rattle.clips.specs.Open.{noSession, openOf}
@@ -84,7 +85,7 @@ step-refused (transition f at) x =
     counts {A = SubmitAnswered × List ℕ × List ℕ} _ _ _ (λ z. code (saysSubmit (z .0 .answer))) (λ z. state (z .0 .session) (z .1) (z .2) (x .pool)) x (λ k. refl) refl
     (λ k. ap (withSession x) (turned-away k (x .session)))
 step-refused (block out) x =
-    leaves {A = Answered × List Float} _ _ _ (λ z. code (says (z .0 .answer))) (λ z. withSession x (z .0 .session)) x (λ k. refl) refl
+    leaves {A = BlockAnswered × List Float} _ _ _ (λ z. code (saysBlock (z .0 .answer))) (λ z. withSession x (z .0 .session)) x (λ k. refl) refl
     (block-other (x .session) (x .queue) (x .capture) (x .pool) out) (λ k. refl)
 step-refused startCapture x =
     leaves {A = Answered} _ _ _ (λ z. code (says (z .answer))) (λ z. withSession x (z .session)) x (λ k. refl) refl (only-other (x .session) (x .queue) (x .capture)) (λ k. refl)
@@ -117,7 +118,7 @@ ill-formed (load samples kind rate) x e = ones {A = LoadAnswered × List Float} 
 ill-formed (retire h) x e = ones {A = Answered} _ _ _ _ (λ z. code (says (z .answer))) e (λ k. refl)
 ill-formed (submit y at) x e = ones {A = SubmitAnswered × List ℕ × List ℕ} _ _ _ _ (λ z. code (saysSubmit (z .0 .answer))) e (λ k. refl)
 ill-formed (transition f at) x e = ones {A = SubmitAnswered × List ℕ × List ℕ} _ _ _ _ (λ z. code (saysSubmit (z .0 .answer))) e (λ k. refl)
-ill-formed (block out) x e = ones {A = Answered × List Float} _ _ _ _ (λ z. code (says (z .0 .answer))) e (λ k. refl)
+ill-formed (block out) x e = ones {A = BlockAnswered × List Float} _ _ _ _ (λ z. code (saysBlock (z .0 .answer))) e (λ k. refl)
 ill-formed startCapture x e = ones {A = Answered} _ _ _ _ (λ z. code (says (z .answer))) e (λ k. refl)
 ill-formed (stopCapture list) x e = ones {A = StopAnswered × List ℕ} _ _ _ _ (λ z. code (saysStop (z .0 .answer))) e (λ k. refl)
 ill-formed (replay list) x e = ones {A = ReplayAnswered × List ℕ} _ _ _ _ (λ z. code (saysReplay (z .0 .answer))) e (λ k. refl)
@@ -129,7 +130,7 @@ ill-formed metrics x e = ones {A = MetricsAnswered} _ _ _ _ (λ z. code (saysMet
 
 output-refused : (x : State) (out : List Float) → refusal (block out) x ≢ 0 → outOf x out ≡ out
 unfolding blockOf
-output-refused x out = keeps {A = Answered × List Float} _ _ _ (λ z. code (says (z .0 .answer))) (λ z. z .1) out refl (λ k. refl)
+output-refused x out = keeps {A = BlockAnswered × List Float} _ _ _ (λ z. code (saysBlock (z .0 .answer))) (λ z. z .1) out refl (λ k. refl)
 
 list-refused : (x : State) (list : List ℕ) → refusal (stopCapture list) x ≢ 0 → listOf x list ≡ list
 unfolding stopCaptureOf

@@ -33,9 +33,9 @@ use Rattle.stage.specs.declared.Stage.{Stage}
 use Rattle.stage.specs.declared.Tail.{Tail}
 use Rattle.stage.specs.Sound.{withTail, renderedOf}
 use Rattle.stage.specs.Stage.{frameOf}
-use Rattle.stage.specs.Machine.{machineOf, outputOf}
+use Rattle.stage.specs.Machine.{FrameMade, machineOf, outputOf}
 use Rattle.session.specs.declared.Session.{Session}
-use Rattle.session.specs.declared.Answered.{Answered}
+use Rattle.block.specs.declared.BlockAnswered.{BlockAnswered}
 use Rattle.block.specs.Block.{ranOf}
 use Rattle.block.proofs.Weigh.{block-done}
 use Rattle.promises.specs.Signs.{minusZero, NeverMinusZero}
@@ -278,19 +278,19 @@ block-made m P made =
       frames = λ c q. (made c, tt);
     })
 
-output-fine : (l : List Pair) → Each Both l → Each (λ v. minusZero v ≡ false) (outputOf l)
+output-fine : (l : List FrameMade) → Each (λ m. Both (m .pair)) l → Each (λ v. minusZero v ≡ false) (outputOf l)
 output-fine [] e = tt
-output-fine (p ∷ l) e = (e .0 .0 .1, (e .0 .1 .1, output-fine l (e .1)))
+output-fine (m ∷ l) e = (e .0 .0 .1, (e .0 .1 .1, output-fine l (e .1)))
 
-ran-fine : (s : Session) (q : List ℕ) (pool : List Float) (n : ℕ) → Each Both (ranOf s q pool n .made)
+ran-fine : (s : Session) (q : List ℕ) (pool : List Float) (n : ℕ) → Each (λ m. Both (m .pair)) (ranOf s q pool n .made)
 unfolding ranOf
-ran-fine s q pool n = block-made (machineOf (s .settings) (viewOf pool (s .bank))) Both (frame-fine (s .settings) (viewOf pool (s .bank))) n _
+ran-fine s q pool n = block-made (machineOf (s .settings) (viewOf pool (s .bank))) (λ m. Both (m .pair)) (frame-fine (s .settings) (viewOf pool (s .bank))) n _
 
 pub never-minus-zero : NeverMinusZero
 never-minus-zero =
     record {
       sum = λ view t. (sum-fine view t .0 .1, sum-fine view t .1 .1);
       samples = λ x out e.
-          subst (λ (z : Answered × List Float). Each (λ v. minusZero v ≡ false) (z .1)) (sym (block-done (x .session) (x .queue) (x .capture) (x .pool) out (block-accepts x out e)))
+          subst (λ (z : BlockAnswered × List Float). Each (λ v. minusZero v ≡ false) (z .1)) (sym (block-done (x .session) (x .queue) (x .capture) (x .pool) out (block-accepts x out e)))
           (output-fine (ranOf (x .session) (x .queue) (x .pool) (framesOf out) .made) (ran-fine (x .session) (x .queue) (x .pool) (framesOf out)));
     }

@@ -33,6 +33,7 @@ use Rattle.session.specs.declared.Answered.{Answered}
 use Rattle.session.specs.WellFormed.{wellFormed}
 use Rattle.session.proofs.Refuse.{passed, unless-both}
 use Rattle.session.proofs.Parts.{Parts, parts}
+use Rattle.block.specs.declared.BlockAnswered.{BlockAnswered}
 use Rattle.block.specs.Block.{ranOf, blockOf}
 use Rattle.block.proofs.Queue.{queue-ran}
 use Rattle.clips.specs.declared.LoadAnswered.{LoadAnswered}
@@ -102,7 +103,7 @@ module _ (P : Command → Type 0) (taken-has : (s : Session) (q : List ℕ) (spa
     block-all : (pool out : List Float) → All (blockOf s q c pool out .0 .session) q c
     unfolding blockOf
     block-all pool out =
-        unless-both {A = Answered × List Float} _ _ _ (λ z. All (z .0 .session) q c) (λ k. p)
+        unless-both {A = BlockAnswered × List Float} _ _ _ (λ z. All (z .0 .session) q c) (λ k. p)
         (λ fine. (rw (queue-ran s q pool (framesOf out)) (ran-all pool (framesOf out)), p .1))
 
     -- ---- a command that is taken

@@ -13,7 +13,7 @@ use Rattle.bank.specs.declared.Kind.{Kind}
 use Rattle.stage.specs.declared.Settings.{Settings}
 use Rattle.session.specs.declared.Session.{Session}
 use Rattle.session.specs.Answer.{Says, refused, gives, says}
-use Rattle.block.specs.Block.{blockOf}
+use Rattle.block.specs.Block.{saysBlock, reported, blockOf}
 use Rattle.clips.specs.Answer.{saysLoad}
 use Rattle.clips.specs.Open.{openOf}
 use Rattle.clips.specs.Load.{loadOf}
@@ -78,7 +78,7 @@ step (transition f at) x =
     (code (saysSubmit (o .0 .answer)), state (o .0 .session) (o .1) (o .2) (x .pool))
 step (block out) x =
     let o = blockOf (x .session) (x .queue) (x .capture) (x .pool) out in
-    (code (says (o .0 .answer)), withSession x (o .0 .session))
+    (code (saysBlock (o .0 .answer)), withSession x (o .0 .session))
 step startCapture x =
     let o = startCaptureOf (x .session) (x .queue) (x .capture) in
     (code (says (o .answer)), withSession x (o .session))
@@ -110,6 +110,10 @@ after k x = step k x .1
 abbrev pub outOf : State → List Float → List Float
 outOf x out = blockOf (x .session) (x .queue) (x .capture) (x .pool) out .1
 
+-- the passes that it reports; none where it is refused
+abbrev pub passesOf : State → List Float → ℕ
+passesOf x out = reported (blockOf (x .session) (x .queue) (x .capture) (x .pool) out .0 .answer)
+
 -- what is heard of a call: of a block its output, else nothing
 abbrev pub heard : Call → State → List Float
 heard (load samples kind rate) x = []
@@ -133,6 +137,11 @@ afterAll (k ∷ ks) x = afterAll ks (after k x)
 abbrev pub heardAll : List Call → State → List Float
 heardAll [] x = []
 heardAll (k ∷ ks) x = heard k x ++ heardAll ks (after k x)
+
+-- what blocks report, one after the other
+abbrev pub passesAll : List (List Float) → State → List ℕ
+passesAll [] x = []
+passesAll (out ∷ outs) x = passesOf x out ∷ passesAll outs (after (block out) x)
 
 -- what opening is given
 pub record Opening : Type 0 where

@@ -17,7 +17,7 @@ use Rattle.submission.specs.Answer.{saysSubmit, saysReplay}
 use Rattle.submission.specs.Submit.{submitOf}
 use Rattle.submission.specs.Transition.{transitionOf}
 use Rattle.submission.specs.Replay.{replayOf}
-use Rattle.block.specs.Block.{blockOf}
+use Rattle.block.specs.Block.{saysBlock, blockOf}
 use Rattle.control.specs.Answer.{saysStop, saysSnapshot, saysMetrics}
 use Rattle.control.specs.Capture.{startCaptureOf, stopCaptureOf}
 use Rattle.control.specs.Snapshot as control
@@ -185,7 +185,8 @@ SameAnswer (transition f at) x =
     let o = transitionHost (x .session) (x .queue) (x .capture) f at in
     saysBy (o .0 .refusal) (o .0 .number) ≡ saysSubmit (transitionOf (sessionOf (x .session)) (x .queue) (x .capture) f (atOf at) .0 .answer)
 SameAnswer (block out) x =
-    saysBy (blockHost (x .session) (x .queue) (x .capture) (x .pool) out .0 .refusal) tt ≡ says (blockOf (sessionOf (x .session)) (x .queue) (x .capture) (x .pool) out .0 .answer)
+    let o = blockHost (x .session) (x .queue) (x .capture) (x .pool) out in
+    saysBy (o .0 .refusal) (o .0 .passes) ≡ saysBlock (blockOf (sessionOf (x .session)) (x .queue) (x .capture) (x .pool) out .0 .answer)
 SameAnswer startCapture x =
     saysBy (startCaptureHost (x .session) (x .queue) (x .capture) .refusal) tt ≡ says (startCaptureOf (sessionOf (x .session)) (x .queue) (x .capture) .answer)
 SameAnswer (stopCapture list) x =

@@ -2,6 +2,7 @@ pub mod Calls
 pub mod Numbers
 pub mod Declick
 pub mod Tail
+pub mod Laps
 pub mod Kept
 pub mod Exchanged
 pub mod Refused

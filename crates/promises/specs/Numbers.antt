@@ -48,7 +48,7 @@ Declick = (declickOf 44100 ≡ tweenOf 88) × (declickOf 44250 ≡ tweenOf 89) �
 
 -- the clock frame of song frame t, at clock 500 and position p
 abbrev pub dueOf : ℕ → LoopRange → ℕ → ClockFrame
-dueOf p l t = deadlineOf (clock 500) (transport TransportState.Playing p p l) (At.Song (frame t))
+dueOf p l t = deadlineOf (clock 500) (transport TransportState.Playing p p l 0) (At.Song (frame t))
 
 -- loop 80..120
 abbrev pub looped : LoopRange
@@ -67,7 +67,7 @@ Deadlines =
 
 -- Playing in that loop, at position p and cursor c
 abbrev pub inLoop : ℕ → ℕ → Transport
-inLoop p c = transport TransportState.Playing p c (LoopRange.Range (frame 10) (frame 14))
+inLoop p c = transport TransportState.Playing p c (LoopRange.Range (frame 10) (frame 14)) 0
 
 -- rule a
 abbrev pub Wraps : Type 0
@@ -125,7 +125,7 @@ TwoCommands =
     × (refusal (block (lent 0)) (afterBlock 8 both) ≡ 0)
     × (executed soFar ≡ 1)
     × (executed (afterBlock 1 soFar) ≡ 2)
-    × (transportOf (afterBlock 1 soFar) ≡ transport TransportState.Paused 0 0 LoopRange.Off)
+    × (transportOf (afterBlock 1 soFar) ≡ transport TransportState.Paused 0 0 LoopRange.Off 0)
     × (executed (afterBlock 9 both) ≡ 2)
 
 -- ---- song (0.5, -0.5), (0.25, 0.25), length 2, Play at 0, block of 4: those pairs, four zeros; position 2, Stopped

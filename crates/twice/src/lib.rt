@@ -3,6 +3,7 @@
 //! them determines its result. All NaNs are one float here.
 ghost use mathlib.Core.Path.{_≡_};
 use bank::Kind;
+use block::BlockAnswered;
 use clips::LoadAnswered;
 use control::MetricsAnswered;
 use control::PerformanceSnapshot;
@@ -27,6 +28,8 @@ pub struct LoadTwice(pub LoadAnswered, pub LoadAnswered);
 pub struct SubmitTwice(pub SubmitAnswered, pub SubmitAnswered);
 
 pub struct ReplayTwice(pub ReplayAnswered, pub ReplayAnswered);
+
+pub struct BlockTwice(pub BlockAnswered, pub BlockAnswered);
 
 pub struct StopTwice(pub StopAnswered, pub StopAnswered);
 
@@ -159,13 +162,13 @@ pub fn block(
     capture2: &[u64],
     pool2: &[f32],
     out2: &mut [f32],
-) -> Twice
+) -> BlockTwice
     requires { ⌜ (now queue ≡ now queue2) × (now capture ≡ now capture2) × (now pool ≡ now pool2) × (now out ≡ now out2) ⌝ }
     ensures { λ r. ⌜ (r .0 ≡ r .1) × (now (out .exit) ≡ now (out2 .exit)) ⌝ }
 {
     let one = block::block(s, queue, capture, pool, out);
     let other = block::block(s, queue2, capture2, pool2, out2);
-    Twice(one, other)
+    BlockTwice(one, other)
 }
 
 // ---- the calls around the performance

@@ -71,8 +71,8 @@ loop-again c =
 all-named-requires : tie.Need-all-named-requires Inv-loop μ-loop
 all-named-requires c κs = search needs
 
-refused-requires : tie.Need-refused-requires Inv-loop μ-loop
-refused-requires c κs = search needs
+block-refused-requires : tie.Need-block-refused-requires Inv-loop μ-loop
+block-refused-requires c κs = search needs
 
 -- past the loop it is known whether a session matches, and which bank it has,
 abbrev begun : tie.After-all-named Inv-loop μ-loop → tie.Start Inv-loop μ-loop
@@ -90,7 +90,7 @@ its-clips c = convert-numbers _ (slots (begun c)) _ _ _ _ (c .before .before .lo
 
 returns : tie.Need-returns Inv-loop μ-loop
 returns c =
-    rw (c .refused .ensures) (block-unmatched _ _ _ _ _ (not-true _ (ap not (sym (known (c .before .before))) ∙ c .before .if1 .taken)))
+    rw (c .block-refused .ensures) (block-unmatched _ _ _ _ _ (not-true _ (ap not (sym (known (c .before .before))) ∙ c .before .if1 .taken)))
 
 stage-of-requires : tie.Need-stage-of-requires Inv-loop μ-loop
 stage-of-requires c κs = search needs
@@ -101,31 +101,31 @@ desk-of-requires c κs = search needs
 make-requires : tie.Need-make-requires Inv-loop μ-loop
 make-requires c κs = search needs
 
-enum-told : tie.Need-enum-told Inv-loop μ-loop
-enum-told c = search needs
+enum-known-answer : tie.Need-enum-known-answer Inv-loop μ-loop
+enum-known-answer c = search needs
 
 kept-requires : tie.Need-kept-requires Inv-loop μ-loop
 kept-requires c κs = search needs
 
-enum-known-answer : tie.Need-enum-known-answer Inv-loop μ-loop
-enum-known-answer c = search needs
+enum-known-answer-2 : tie.Need-enum-known-answer-2 Inv-loop μ-loop
+enum-known-answer-2 c = search needs
 
 number-requires : tie.Need-number-requires Inv-loop μ-loop
 number-requires c κs = search needs
 
-refused-requires-2 : tie.Need-refused-requires-2 Inv-loop μ-loop
-refused-requires-2 c κs = search needs
+block-refused-requires-2 : tie.Need-block-refused-requires-2 Inv-loop μ-loop
+block-refused-requires-2 c κs = search needs
 
 same-length : tie.Need-same-length Inv-loop μ-loop
 same-length c = search needs
 
 returns-2 : tie.Need-returns-2 Inv-loop μ-loop
 returns-2 c =
-    let made = c .before .before .before .before .before .before in
+    let made = c .before .before .before .before .before .before .before in
     let past = made .before .before .before .before .before in
     rw (c .kept .ensures (past .before .before .before .loop .bank .clips) (its-clips (past .before)))
     (block-matched _ _ _ _ _ _ _ _ _ _ _ _ _ (not-false _ (ap not (sym (known (past .before))) ∙ past .if1 .left)) (its-bank (past .before)) (made .before .before .before .stage-of .ensures) (made .before .before .desk-of .ensures)
-    (c .before .enum-told .given .1)
+    (c .before .before .answer .given .1)
     (made .make .ensures))
 
 same-length-2 : tie.Need-same-length-2 Inv-loop μ-loop
@@ -135,9 +135,9 @@ returns-3 : tie.Need-returns-3 Inv-loop μ-loop
 returns-3 c =
     let made = c .before .before .before .before .before .before .before .before in
     let past = made .before .before .before .before .before in
-    rw (c .refused2 .ensures, c .before .number .ensures)
+    rw (c .block-refused2 .ensures, c .before .number .ensures)
     (block-matched _ _ _ _ _ _ _ _ _ _ _ _ _ (not-false _ (ap not (sym (known (past .before))) ∙ past .if1 .left)) (its-bank (past .before)) (made .before .before .before .stage-of .ensures) (made .before .before .desk-of .ensures)
-    (c .before .before .before .answer .given .1)
+    (c .before .before .before .answer2 .given .1)
     (made .make .ensures))
 
 pub threshreed-block-spec : {M : Type 1} → statement M
@@ -162,16 +162,16 @@ threshreed-block-spec =
     loop-less
     loop-again
     all-named-requires
-    refused-requires
+    block-refused-requires
     returns
     stage-of-requires
     desk-of-requires
     make-requires
-    enum-told
-    kept-requires
     enum-known-answer
+    kept-requires
+    enum-known-answer-2
     number-requires
-    refused-requires-2
+    block-refused-requires-2
     same-length
     returns-2
     same-length-2
