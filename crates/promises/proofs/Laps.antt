@@ -1,16 +1,14 @@
 -- The laps of every session reached from opening: none without a loop, and a block that executes nothing that sets them back raises them by its passes.
 -- Assumes nothing.
 use mathlib.Core.Path.{_≡_, refl, sym, ap, _∙_}
-use mathlib.Core.Bool.{true, false}
+use mathlib.Core.Bool.{false}
 use mathlib.Core.List.{List, [], _∷_, _++_}
 use Prim.Native.Nat.{ℕ, _+_, _-_, _^_, _<_, min}
 use native.Mathlib.Omega.{arith}
 use lib.Ieee.{Float}
-use Rattle.laws.specs.Block.{Machine, At, Ran, stand, still, after as then, executing, framing}
+use Rattle.laws.specs.Block.{Machine, At, Ran, stand, after, executing, framing}
 use Rattle.laws.specs.Queue.{Each}
 use Rattle.laws.proofs.Stepwise.{Stepwise, block-stepwise}
-use Rattle.counts.specs.declared.SongFrame.{SongFrame}
-use Rattle.counts.specs.declared.Handle.{Handle}
 use Rattle.counts.proofs.Truth.{never}
 use Rattle.timeline.specs.declared.Command.{Command}
 use Rattle.timeline.specs.declared.QueueRecord.{QueueRecord}
@@ -28,10 +26,10 @@ use Rattle.stage.specs.Machine.{Told, FrameMade, machineOf, passesOf}
 use Rattle.stage.proofs.Passes.{passes-append}
 use Rattle.session.specs.Reading.{lapsOf}
 use Rattle.block.specs.declared.BlockAnswered.{BlockAnswered}
-use Rattle.block.specs.Block.{ranOf, blockDone, reported}
+use Rattle.block.specs.Block.{ranOf, reported}
 use Rattle.block.proofs.Weigh.{block-done}
-use Rattle.promises.specs.Calls.{State, block, refusal, after, passesOf as passesBy, Reached}
-use Rattle.promises.specs.Laps.{setsBack, executedIn, Laps}
+use Rattle.promises.specs.Calls.{State, Reached}
+use Rattle.promises.specs.Laps.{setsBack, Laps}
 use Rattle.promises.proofs.Fine.{block-accepts}
 use Rattle.promises.proofs.Stages.{reached-has}
 
@@ -97,7 +95,7 @@ module _ (x : Settings) (view : View) where
   abbrev Rises : At Stage QueueRecord → Ran Stage QueueRecord FrameMade Told → Type 0
   Rises a r = laps (a .core) < 2 ^ 64 → Each Leaves (r .told) → laps (r .at .core) ≡ min (laps (a .core) + passesOf (r .made)) (2 ^ 64 - 1)
 
-  joins : (a : At Stage QueueRecord) (r s : Ran Stage QueueRecord FrameMade Told) → Rises a r → Rises (r .at) s → Rises a (then r s)
+  joins : (a : At Stage QueueRecord) (r s : Ran Stage QueueRecord FrameMade Told) → Rises a r → Rises (r .at) s → Rises a (after r s)
   joins a r s i k low e =
       let p = each-split Leaves (r .told) (s .told) e in
       let f = i low (p .0) in
@@ -115,21 +113,21 @@ module _ (x : Settings) (view : View) where
   steps : Stepwise machine Rises
   steps = record { commands = record { stays = λ a low e. omega arith; joins = joins; executes = λ d c q due. executes d c q }; frames = frames }
 
+ran-rises : (x : State) (n : ℕ) → lapsOf (x .session) < 2 ^ 64 → let r = ranOf (x .session) (x .queue) (x .pool) n in
+    Each (λ t. setsBack (t .command .command) ≡ false) (r .told) → r .at .core .playhead .transport .laps ≡ min (lapsOf (x .session) + passesOf (r .made)) (2 ^ 64 - 1)
+unfolding ranOf
+ran-rises x n =
+    let view : View = viewOf (x .pool) (x .session .bank) in
+    block-stepwise (machineOf (x .session .settings) view) (Rises (x .session .settings) view) (steps (x .session .settings) view) n (stand (x .session .stage) (queue (x .queue) (x .session .queued)))
+
 -- without a loop there are no laps, and a block that executes nothing that sets them back raises them by the passes that it reports
 pub laps-count : Laps
-laps-count = record { none = λ x r. reached-counted x r .none; rise = rise }
-  where
-    ran-rises : (x : State) (n : ℕ) → lapsOf (x .session) < 2 ^ 64 → let r = ranOf (x .session) (x .queue) (x .pool) n in
-        Each (λ t. setsBack (t .command .command) ≡ false) (r .told) → r .at .core .playhead .transport .laps ≡ min (lapsOf (x .session) + passesOf (r .made)) (2 ^ 64 - 1)
-    unfolding ranOf
-    ran-rises x n =
-        let view : View = viewOf (x .pool) (x .session .bank) in
-        block-stepwise (machineOf (x .session .settings) view) (Rises (x .session .settings) view) (steps (x .session .settings) view) n (stand (x .session .stage) (queue (x .queue) (x .session .queued)))
-
-    rise : (x : State) (out : List Float) → Reached x → refusal (block out) x ≡ 0 → Each (λ t. setsBack (t .command .command) ≡ false) (executedIn x out)
-        → lapsOf (after (block out) x .session) ≡ min (lapsOf (x .session) + passesBy x out) (2 ^ 64 - 1)
-    rise x out r a e =
-        let done = block-done (x .session) (x .queue) (x .capture) (x .pool) out (block-accepts x out a) in
-        ap (λ (z : BlockAnswered × List Float). lapsOf (z .0 .session)) done
-        ∙ ran-rises x (framesOf out) (reached-counted x r .low) e
-        ∙ sym (ap (λ (z : BlockAnswered × List Float). min (lapsOf (x .session) + reported (z .0 .answer)) (2 ^ 64 - 1)) done)
+laps-count =
+    record {
+      none = λ x r. reached-counted x r .none;
+      rise = λ x out r a e.
+          let done = block-done (x .session) (x .queue) (x .capture) (x .pool) out (block-accepts x out a) in
+          ap (λ (z : BlockAnswered × List Float). lapsOf (z .0 .session)) done
+          ∙ ran-rises x (framesOf out) (reached-counted x r .low) e
+          ∙ sym (ap (λ (z : BlockAnswered × List Float). min (lapsOf (x .session) + reported (z .0 .answer)) (2 ^ 64 - 1)) done);
+    }
