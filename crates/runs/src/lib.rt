@@ -25,8 +25,6 @@ use counts::SongFrame;
 use oneshot::Pair;
 use oneshot::Voice;
 use oneshot::Voices;
-use sweeps::Part;
-use sweeps::Stream;
 use ramp::Ramp;
 use stage::Fade;
 use stage::Playhead;
@@ -34,6 +32,8 @@ use stage::Settings;
 use stage::Sound;
 use stage::Stage;
 use stage::Tail;
+use sweeps::Part;
+use sweeps::Stream;
 use transport::LoopRange;
 use transport::Transport;
 

@@ -49,18 +49,18 @@ unfolding stepOf wrapOf
 read-at frames extent t =
     cond-both (λ (x : Transport). (x .cursor .0 ≡ t .cursor .0) ⊎ StartsAt (t .looped) (x .cursor .0)) (isPlaying (t .state)) (wrapIn (t .looped) t) t (wrap-in t (t .looped)) (inl refl)
 
--- the state and the loop of the one are the other's
+-- the state, the loop and the laps of the one are the other's
 abbrev Kept : Transport → Transport → Type 0
-Kept t x = (x .state ≡ t .state) × (x .looped ≡ t .looped)
+Kept t x = (x .state ≡ t .state) × (x .looped ≡ t .looped) × (x .laps ≡ t .laps)
 
 wrap-in-keeps : (t : Transport) (l : LoopRange) → Kept t (wrapIn l t)
-wrap-in-keeps t Off = (refl, refl)
-wrap-in-keeps t (Range s e) = cond-both (Kept t) (leb (e .0) (t .position .0)) (wrapTo (s .0) (e .0) t) t (refl, refl) (refl, refl)
+wrap-in-keeps t Off = (refl, refl, refl)
+wrap-in-keeps t (Range s e) = cond-both (Kept t) (leb (e .0) (t .position .0)) (wrapTo (s .0) (e .0) t) t (refl, refl, refl) (refl, refl, refl)
 
--- rule a leaves the state and the loop
-wrap-keeps : (t : Transport) → Kept t (wrapOf t)
+-- rule a leaves the state, the loop and the laps
+pub wrap-keeps : (t : Transport) → Kept t (wrapOf t)
 unfolding wrapOf
-wrap-keeps t = cond-both (Kept t) (isPlaying (t .state)) (wrapIn (t .looped) t) t (wrap-in-keeps t (t .looped)) (refl, refl)
+wrap-keeps t = cond-both (Kept t) (isPlaying (t .state)) (wrapIn (t .looped) t) t (wrap-in-keeps t (t .looped)) (refl, refl, refl)
 
 -- the song plays in a frame if it was Playing before it
 pub plays : (frames extent : ℕ) (t : Transport) → stepOf frames extent t .playing ≡ isPlaying (t .state)

@@ -9,7 +9,8 @@ use Rattle.transport.specs.declared.TransportState.the-variants.{Stopped
 use Rattle.transport.specs.declared.LoopRange.{LoopRange}
 use Rattle.transport.specs.declared.LoopRange.the-variants.{Off, Range}
 use Rattle.transport.specs.declared.Transport.{Transport}
-use Rattle.transport.specs.Transport.{isPlaying, transport, movedTo, wrapTo, wrapIn, wrapOf, cursorOn, landIn, advanceOf, pastEnd, isPast, comesRound, once, stepOf, loopFits, loopedBy, loopOf}
+use Rattle.transport.specs.Transport.{isPlaying, transport, movedTo, wrapOf, cursorOn, landIn, advanceOf, pastEnd, isPast, comesRound, once, stepOf, loopFits, loopedBy, loopOf}
+use Rattle.transport.proofs.Moves.{wrap-keeps}
 
 -- ---- how many
 
@@ -29,15 +30,7 @@ few frames extent t = two (isPast t) (comesRound (wrapOf t))
 abbrev Kept : Transport → Transport → Type 0
 Kept t x = (x .looped ≡ t .looped) × (x .laps ≡ t .laps)
 
--- neither rule changes them
-wrap-in-keeps : (t : Transport) (l : LoopRange) → Kept t (wrapIn l t)
-wrap-in-keeps t Off = (refl, refl)
-wrap-in-keeps t (Range s e) = cond-both (Kept t) (leb (e .0) (t .position .0)) (wrapTo (s .0) (e .0) t) t (refl, refl) (refl, refl)
-
-wrap-keeps : (t : Transport) → Kept t (wrapOf t)
-unfolding wrapOf
-wrap-keeps t = cond-both (Kept t) (isPlaying (t .state)) (wrapIn (t .looped) t) t (wrap-in-keeps t (t .looped)) (refl, refl)
-
+-- rule b leaves them, as rule a does
 land-in-keeps : (extent : ℕ) (t : Transport) (l : LoopRange) → t .looped ≡ l → Kept t (landIn extent l t)
 land-in-keeps extent t Off e = cond-both (Kept t) (leb extent (t .position .0)) (transport Stopped extent (t .cursor .0) Off (t .laps)) t (rw e, refl) (refl, refl)
 land-in-keeps extent t (Range s e) q = cond-both (Kept t) (leb (e .0) (t .position .0)) (movedTo t (s .0) (s .0)) t (refl, refl) (refl, refl)
@@ -52,19 +45,19 @@ module _ (frames extent : ℕ) (t : Transport) where
   -- a frame keeps the loop,
   pub step-looped : stepOf frames extent t .transport .looped ≡ t .looped
   unfolding stepOf
-  step-looped = advance-keeps frames extent (wrapOf t) .0 ∙ wrap-keeps t .0
+  step-looped = advance-keeps frames extent (wrapOf t) .0 ∙ wrap-keeps t .1
 
   -- and the laps rise by its passes, up to 2^64 - 1
   pub step-laps : stepOf frames extent t .transport .laps ≡ min (t .laps + stepOf frames extent t .passes) (2 ^ 64 - 1)
   unfolding stepOf
-  step-laps = ap (λ n. min (n + (once (isPast t) + once (comesRound (wrapOf t)))) (2 ^ 64 - 1)) (advance-keeps frames extent (wrapOf t) .1 ∙ wrap-keeps t .1)
+  step-laps = ap (λ n. min (n + (once (isPast t) + once (comesRound (wrapOf t)))) (2 ^ 64 - 1)) (advance-keeps frames extent (wrapOf t) .1 ∙ wrap-keeps t .2)
 
   -- without a loop it makes none
   pub no-pass : t .looped ≡ Off → stepOf frames extent t .passes ≡ 0
   unfolding stepOf isPast comesRound
   no-pass e =
       let past : (l : LoopRange) (p : ℕ) → l ≡ Off → pastEnd l p ≡ false = λ l p q. rw q in
-      rw (and-false-r (isPlaying (t .state)) (past (t .looped) (t .position .0) e), and-false-r (isPlaying (wrapOf t .state)) (past (wrapOf t .looped) (wrapOf t .position .0 + 1) (wrap-keeps t .0 ∙ e)))
+      rw (and-false-r (isPlaying (t .state)) (past (t .looped) (t .position .0) e), and-false-r (isPlaying (wrapOf t .state)) (past (wrapOf t .looped) (wrapOf t .position .0 + 1) (wrap-keeps t .1 ∙ e)))
 
 -- ---- without a loop there are no laps, and they are a 64-bit number
 

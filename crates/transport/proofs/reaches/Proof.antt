@@ -1,10 +1,10 @@
--- `Transport::reaches` meets its contract: where the end is not behind, the sum fits.
+-- `transport::reaches` meets its contract: where the end is not behind, the sum fits.
 use mathlib.Core.Path.{sym}
 use native.Mathlib.Nat.{le-trans, le-add-right}
 use borrow.Author.Needs.{needs}
 use borrow.Author.Tests.{le-leb}
-use Rattle.transport.proofs.Transport.reaches.Statement.{statement}
-use Rattle.transport.proofs.Transport.reaches.Tie as tie
+use Rattle.transport.proofs.reaches.Statement.{statement}
+use Rattle.transport.proofs.reaches.Tie as tie
 
 returns : tie.Need-returns
 returns c = sym (le-leb _ _ (le-trans (c .if1 .taken) (le-add-right _ 1)))
