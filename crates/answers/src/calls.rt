@@ -7,9 +7,9 @@ use crate::marks;
 use crate::told;
 use crate::told::Seat;
 use crate::told::Told;
+use block::BlockAnswered;
 use clips::LoadAnswered;
 use counts::SongFrame;
-use session::Answered;
 use session::Session;
 use stage::Settings;
 use submission::ReplayAnswered;
@@ -189,7 +189,7 @@ fn make(
     pool: &[f32],
     out: &mut [f32],
     n: usize,
-) -> Answered
+) -> BlockAnswered
     requires { ⌜ n ≤ length (now out) ⌝ }
 {
     block::block(s, queue, capture, pool, &mut out[..n])

@@ -2,6 +2,8 @@
 ghost use Prim.Native.Nat.{_≤_};
 use crate::asked;
 use crate::lines::Line;
+use block::BlockAnswer;
+use block::BlockAnswered;
 use clips::LoadAnswer;
 use clips::LoadAnswered;
 use control::PerformanceSnapshot;
@@ -88,7 +90,7 @@ fn refused(l: Line, k: Refusal) -> Line {
     l.push(k.number() as u64)
 }
 
-/// After the numbers that ask, or after those and a digest.
+/// After the numbers that ask.
 fn done(l: Line, a: Answer) -> Line {
     match a {
         Answer::Done => l,
@@ -102,10 +104,18 @@ pub fn answered(seat: Seat, l: Line, r: Answered) -> Told {
     stands(seat, s, done(asked::asking(l), a))
 }
 
-pub fn block(seat: Seat, l: Line, r: Answered, digest: u64) -> Told {
+/// After the numbers that ask and a digest. The passes stand in no line.
+fn filled(l: Line, a: BlockAnswer) -> Line {
+    match a {
+        BlockAnswer::Done(_) => l,
+        BlockAnswer::Refused(k) => refused(l, k),
+    }
+}
+
+pub fn block(seat: Seat, l: Line, r: BlockAnswered, digest: u64) -> Told {
     let a = r.answer;
     let s = r.session;
-    stands(seat, s, done(asked::asking(l).push(digest), a))
+    stands(seat, s, filled(asked::asking(l).push(digest), a))
 }
 
 fn handle(l: Line, a: LoadAnswer) -> Line {

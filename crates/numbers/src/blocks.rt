@@ -4,6 +4,7 @@ use crate::told::stands;
 use bank::Bank;
 use bank::Clip;
 use bank::Kind;
+use block::BlockAnswered;
 use counts::ClockFrame;
 use counts::Handle;
 use counts::SamplePlace;
@@ -13,7 +14,6 @@ use oneshot::Voices;
 use print::number;
 use print::text;
 use ramp::Ramp;
-use session::Answered;
 use session::Desk;
 use session::Session;
 use stage::Counters;
@@ -138,6 +138,7 @@ fn sounding(
                     position: SongFrame(0),
                     cursor: SongFrame(0),
                     looped: looped,
+                    laps: 0,
                 },
                 song: song,
             },
@@ -183,7 +184,7 @@ const GAIN: u64 = 8;
 const SWAP: u64 = 9;
 
 /// A block into a part of the output, with no capture.
-fn run(s: Session, queue: &[u64; 20], pool: &[f32], out: &mut [f32]) -> Answered {
+fn run(s: Session, queue: &[u64; 20], pool: &[f32], out: &mut [f32]) -> BlockAnswered {
     let records: &[u64] = queue;
     block::block(s, records, &records[..0], pool, out)
 }

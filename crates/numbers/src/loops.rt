@@ -4,27 +4,14 @@ use crate::refusals::handle_of;
 use crate::refusals::looped;
 use crate::refusals::opened;
 use crate::refusals::queue_one;
+use crate::told::range;
 use bank::Kind;
 use clips::LoadAnswered;
 use counts::SongFrame;
-use print::number;
 use print::text;
 use session::Session;
 use timeline::Submission;
 use transport::At;
-use transport::LoopRange;
-
-fn range(l: LoopRange) {
-    match l {
-        LoopRange::Off => text(b"no loop"),
-        LoopRange::Range(start, end) => {
-            text(b"loop ");
-            number(start.0);
-            text(b"..");
-            number(end.0);
-        }
-    }
-}
 
 /// A loop from 1 to 3 that waits in the queue, then a block of 6, and the loop after it.
 fn told(s: Session, queue: &mut [u64; 10], capture: &mut [u64; 5], pool: &[f32; 16]) {

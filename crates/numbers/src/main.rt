@@ -1,5 +1,6 @@
 //! Runs the documents' numbers on the compiled code, over real stores, and prints them.
 mod blocks;
+mod laps;
 mod loops;
 mod many;
 mod refusals;
@@ -11,6 +12,7 @@ fn main() {
     blocks::all();
     refusals::all();
     loops::past_the_length();
+    laps::all();
     story::replaced();
     many::queue_full();
 }

@@ -191,7 +191,7 @@ fn clock() {
     let r = block::block(s, &queue, &capture, &pool, &mut out);
     let a = r.answer;
     let after = r.session;
-    print::answer(a);
+    crate::told::block_answer(a);
     crate::told::kept(crate::same::session(s, after) & crate::same::samples(&out, &was));
 }
 

@@ -131,7 +131,7 @@ fn transport(a: Transport, b: Transport) -> bool {
     let loops = range(la, lb);
     let positions = frame(pa, pb);
     let cursors = frame(ca, cb);
-    states & loops & positions & cursors
+    states & loops & positions & cursors & (a.laps == b.laps)
 }
 
 fn gain(a: Ramp, b: Ramp) -> bool {

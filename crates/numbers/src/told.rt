@@ -1,10 +1,11 @@
-//! What the numbers are told by: samples, where a session stands, and whether all is as it was.
-use print::answer;
+//! What the numbers are told by: samples, a block's answer, where a session stands, and whether all is as it was.
+use block::BlockAnswer;
+use block::BlockAnswered;
 use print::number;
 use print::sample;
 use print::text;
-use session::Answered;
 use session::Session;
+use transport::LoopRange;
 
 /// The samples of a block's output from one place on to another.
 pub fn samples(out: &[f32], from: usize, to: usize) {
@@ -15,6 +16,17 @@ pub fn samples(out: &[f32], from: usize, to: usize) {
             sample(out[i]);
         }
         i += 1;
+    }
+}
+
+/// A block's answer: the passes made in it.
+pub fn block_answer(a: BlockAnswer) {
+    match a {
+        BlockAnswer::Done(n) => {
+            text(b"done, passes ");
+            number(n);
+        }
+        BlockAnswer::Refused(k) => print::refused(k),
     }
 }
 
@@ -34,10 +46,22 @@ pub fn place(s: Session) {
     text(b"\n");
 }
 
+pub fn range(l: LoopRange) {
+    match l {
+        LoopRange::Off => text(b"no loop"),
+        LoopRange::Range(start, end) => {
+            text(b"loop ");
+            number(start.0);
+            text(b"..");
+            number(end.0);
+        }
+    }
+}
+
 /// What a block answered, and where the session then stands.
-pub fn stands(r: Answered) {
+pub fn stands(r: BlockAnswered) {
     let a = r.answer;
-    answer(a);
+    block_answer(a);
     let s = r.session;
     place(s);
 }

@@ -181,11 +181,12 @@ fn fading(h: Handle) {
     name(h);
 }
 
-/// Clock, position and state.
+/// Clock, position, laps and state.
 fn stands(s: Session) {
     text(b"\n");
     column(s.clock().0);
     column(s.position().0);
+    column(s.laps());
     state(s.state());
 }
 
@@ -250,7 +251,7 @@ fn meter(out: &[f32; 512]) {
 /// The names of the columns.
 pub fn heading() {
     text(b"a tour of two rooms at 8,000 frames a second, peaks in thousandths\n");
-    text(b" clock  song  state    room  tail voices  left right");
+    text(b" clock  song  laps  state    room  tail voices  left right");
 }
 
 /// Where a session stands after a block, and what it gave.
