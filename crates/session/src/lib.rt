@@ -204,7 +204,7 @@ pub enum Weighed {
     Refused(Refusal),
 }
 
-/// The answer of a call that gives no value: retire, block, start capture, apply snapshot.
+/// The answer of a call that gives no value: retire, start capture, apply snapshot.
 pub enum Answer {
     Done,
     Refused(Refusal),

@@ -385,7 +385,7 @@ pub struct Stage {
     pub counters: Counters,
 }
 
-/// A stage a frame on, and the frame.
+/// A stage a frame on, the frame, and how many times the playhead passed from the loop's end to its start.
 pub struct Framed {
     pub stage: Stage,
     pub out: Pair,

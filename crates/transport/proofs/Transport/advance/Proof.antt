@@ -24,25 +24,16 @@ add-risen c =
     let reached = sym (c .before .reaches .ensures) ∙ c .if2 .left in
     omega (arith, leb-false)
 
-moved-to-requires : tie.Need-moved-to-requires
-moved-to-requires c κs = search needs
-
 enum-known-looped : tie.Need-enum-known-looped
 enum-known-looped c = search needs
 
 reaches-requires-2 : tie.Need-reaches-requires-2
 reaches-requires-2 c κs = search needs
 
-moved-to-requires-2 : tie.Need-moved-to-requires-2
-moved-to-requires-2 c κs = search needs
-
 add-risen-2 : tie.Need-add-risen-2
 add-risen-2 c =
     let reached = sym (c .before .reaches2 .ensures) ∙ c .if3 .left in
     omega (arith, leb-false)
-
-moved-to-requires-3 : tie.Need-moved-to-requires-3
-moved-to-requires-3 c κs = search needs
 
 returns : tie.Need-returns
 unfolding advanceOf
@@ -54,23 +45,23 @@ returns c =
 returns-2 : tie.Need-returns-2
 unfolding advanceOf
 returns-2 c =
-    let playing = sym (c .before .before .before .before .before .before .before .before .is-playing .ensures) ∙ c .before .before .before .before .before .before .before .if1 .taken in
-    let reached = sym (c .before .before .reaches .ensures) ∙ c .before .if2 .left in
-    simp (c .moved-to .ensures, playing, c .before .before .before .enum-told .given .1, c .before .before .before .before .before .cursor-on .ensures, reached)
+    let playing = sym (c .before .before .before .before .before .before .before .is-playing .ensures) ∙ c .before .before .before .before .before .before .if1 .taken in
+    let reached = sym (c .before .reaches .ensures) ∙ c .if2 .left in
+    simp (playing, c .before .before .enum-told .given .1, c .before .before .before .before .cursor-on .ensures, reached)
 
 returns-3 : tie.Need-returns-3
 unfolding advanceOf
 returns-3 c =
-    let playing = sym (c .before .before .before .before .before .before .before .before .before .is-playing .ensures) ∙ c .before .before .before .before .before .before .before .before .if1 .taken in
-    let reached = sym (c .before .before .reaches2 .ensures) ∙ c .before .if3 .taken in
-    simp (c .moved-to2 .ensures, playing, c .before .before .before .before .looped .given .1, reached)
+    let playing = sym (c .before .before .before .before .before .before .before .before .is-playing .ensures) ∙ c .before .before .before .before .before .before .before .if1 .taken in
+    let reached = sym (c .before .reaches2 .ensures) ∙ c .if3 .taken in
+    simp (playing, c .before .before .before .looped .given .1, reached)
 
 returns-4 : tie.Need-returns-4
 unfolding advanceOf
 returns-4 c =
-    let playing = sym (c .before .before .before .before .before .before .before .before .before .is-playing .ensures) ∙ c .before .before .before .before .before .before .before .before .if1 .taken in
-    let reached = sym (c .before .before .reaches2 .ensures) ∙ c .before .if3 .left in
-    simp (c .moved-to3 .ensures, playing, c .before .before .before .before .looped .given .1, c .before .before .before .before .before .before .cursor-on .ensures, reached)
+    let playing = sym (c .before .before .before .before .before .before .before .before .is-playing .ensures) ∙ c .before .before .before .before .before .before .before .if1 .taken in
+    let reached = sym (c .before .reaches2 .ensures) ∙ c .if3 .left in
+    simp (playing, c .before .before .before .looped .given .1, c .before .before .before .before .before .cursor-on .ensures, reached)
 
 returns-5 : tie.Need-returns-5
 unfolding advanceOf
@@ -85,12 +76,9 @@ advance-spec =
     enum-told
     reaches-requires
     add-risen
-    moved-to-requires
     enum-known-looped
     reaches-requires-2
-    moved-to-requires-2
     add-risen-2
-    moved-to-requires-3
     returns
     returns-2
     returns-3
