@@ -104,11 +104,11 @@ pub fn answered(seat: Seat, l: Line, r: Answered) -> Told {
     stands(seat, s, done(asked::asking(l), a))
 }
 
-/// After the numbers that ask and a digest. The passes stand in no line.
+/// After the numbers that ask and a digest. A refused block tells a number too many, so that no passes are taken for it.
 fn filled(l: Line, a: BlockAnswer) -> Line {
     match a {
-        BlockAnswer::Done(_) => l,
-        BlockAnswer::Refused(k) => refused(l, k),
+        BlockAnswer::Done(passes) => l.push(passes),
+        BlockAnswer::Refused(k) => refused(l.push(0), k),
     }
 }
 

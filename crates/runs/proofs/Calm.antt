@@ -8,7 +8,8 @@ use native.Mathlib.Nat.{add-zero}
 use native.Mathlib.Numerals.{add-one}
 use native.Mathlib.Omega.{arith}
 use lib.Dec.{ltb}
-use lib.Ieee.{Float, binary32, add, mul}
+use lib.ListN.{getD, set}
+use lib.Ieee.{Float, binary32, nan, add, mul}
 use borrow.Author.Tests.{eq-eqb, ne-eqb}
 use Rattle.transport.specs.declared.Transport.{Transport}
 use Rattle.transport.specs.Transport.{isPlaying, movedTo}
@@ -22,11 +23,12 @@ use Rattle.stage.specs.declared.Tail.{Tail}
 use Rattle.sweeps.specs.declared.Part.{Part}
 use Rattle.sweeps.specs.Over.{over}
 use Rattle.sweeps.specs.Adds.{shareOf, ticksOf, gainAt}
-use Rattle.sweeps.proofs.Over.{lt-or-ge, over-same}
+use Rattle.sweeps.proofs.Over.{lt-or-ge, over-past, over-same}
 use Rattle.sweeps.proofs.Moving.{frame-left, frame-right}
 use Rattle.sweeps.proofs.Order.{add-swap}
 use Rattle.runs.specs.declared.Core.{Core}
-use Rattle.runs.specs.Core.{coreOn, coreGives, corePasses, coreAfter, passesIn, coreAdds, side}
+use Rattle.runs.specs.declared.Made.{Made}
+use Rattle.runs.specs.Core.{coreOn, coreGives, coreMade, corePasses, coreAfter, passesIn, coreAdds, side}
 use Rattle.runs.specs.Run.{cursorBy, transportBy, tailBy, coreBy, Fading, Calm, songPart, overAdds}
 use Rattle.runs.proofs.Song.{songShare, moved-frame, played-frame}
 use Rattle.runs.proofs.Tail.{ticks-next, tailAdds, tail-frame, tail-adds}
@@ -53,7 +55,7 @@ unfolding ticksOf
 tail-none frames Tail.None = refl
 tail-none frames (Tail.Sounding h c w) = rw (cursor-none frames (c .0)) refl
 
-core-none : (song tail : ℕ) (c : Core) → coreBy song tail 0 c ≡ c
+pub core-none : (song tail : ℕ) (c : Core) → coreBy song tail 0 c ≡ c
 unfolding ticksOf
 core-none song tail c = rw (transport-none song (c .playhead .transport), tail-none tail (c .fade .tail)) refl
 
@@ -77,6 +79,32 @@ side-at f k =
     let z : k % 2 ≡ 0 → ⊥ = λ q. omega arith in
     rw (ne-eqb (k % 2) 0 z) (ap f (sym e)))
     (lt-or-ge k (k / 2 * 2 + 1))
+
+-- ---- one frame more
+
+module _ (x : Settings) (s t : Recording) (c : Core) where
+  pub adds-next : (n : ℕ) (os o : List Float) (d : Core) (m : Made) → o ≡ over (coreAdds x s t c) 0 (n * 2) os → d ≡ coreAfter x s t n c
+      → m ≡ coreMade x s t d (pair (getD o (n * 2) nan) (getD o (n * 2 + 1) nan))
+      → set (set o (n * 2) (m .out .left)) (n * 2 + 1) (m .out .right) ≡ over (coreAdds x s t c) 0 ((n + 1) * 2) os
+  unfolding over
+  adds-next n os o d m eo ed em =
+      let e : (n + 1) * 2 ≡ suc (suc (n * 2)) = omega arith in
+      let a : 0 + n * 2 ≡ n * 2 = omega arith in
+      let b : 0 + suc (n * 2) ≡ n * 2 + 1 = omega arith in
+      rw (
+        em,
+        ed,
+        eo,
+        e,
+        a,
+        b,
+        over-past (coreAdds x s t c) 0 (n * 2) os (n * 2) (omega arith),
+        over-past (coreAdds x s t c) 0 (n * 2) os (n * 2 + 1) (omega arith),
+        side-left n _,
+        side-right n _,
+        frame-left n,
+        frame-right n,
+      ) refl
 
 -- ---- its frames
 
@@ -141,3 +169,22 @@ module _ (pool : List Float) (x : Settings) (song clip : Clip) (c : Core) (n : �
       over-same (overAdds pool (songPart song (c .playhead .transport)) clip (c .master) (c .fade .tail)) (coreAdds x s t c) 0 os (n * 2)
       (λ k a b y.
       over-adds (c .fade .tail) (songPart song (c .playhead .transport)) _ y k (h .tail) (omega arith) (song-share pool song (c .playhead .transport) n k (h .song .inside) (omega arith)) ∙ sym (calm-adds k y (omega arith)))
+
+-- ---- and so of no frames
+
+module _ (pool : List Float) (x : Settings) (song clip : Clip) (c : Core) where
+  pub lead-after : (n : ℕ) → (0 < n → Calm song clip n c) → coreBy (song .frames) (clip .frames) n c ≡ coreAfter x (recordingOf pool song) (recordingOf pool clip) n c
+  unfolding coreAfter
+  lead-after zero h = core-none (song .frames) (clip .frames) c
+  lead-after (suc n) h = sym (calm-after pool x song clip c (suc n) (h (omega arith)) (suc n) (omega arith))
+
+  pub lead-over : (n : ℕ) → (0 < n → Calm song clip n c) → (os : List Float)
+      → over (overAdds pool (songPart song (c .playhead .transport)) clip (c .master) (c .fade .tail)) 0 (n * 2) os ≡ over (coreAdds x (recordingOf pool song) (recordingOf pool clip) c) 0 (n * 2) os
+  unfolding over
+  lead-over zero h os = refl
+  lead-over (suc n) h os = calm-over pool x song clip c (suc n) (h (omega arith)) os
+
+  pub lead-passes : (n : ℕ) → (0 < n → Calm song clip n c) → passesIn x (recordingOf pool song) (recordingOf pool clip) n c ≡ 0
+  unfolding passesIn
+  lead-passes zero h = refl
+  lead-passes (suc n) h = calm-passes pool x song clip c (suc n) (h (omega arith)) (suc n) (omega arith)

@@ -4,6 +4,7 @@ use mathlib.Core.Bool.{true}
 use mathlib.Core.List.{List}
 use Prim.Native.Nat.{ℕ, zero, suc, _+_, _*_, _/_, _%_, _≤_}
 use native.Mathlib.Nat.{add-zero}
+use native.Mathlib.Numerals.{add-one}
 use native.Mathlib.Omega.{arith}
 use lib.ListN.{length, getD, set}
 use lib.Ieee.{Float, nan}
@@ -20,18 +21,14 @@ use Rattle.runs.specs.declared.Core.{Core}
 use Rattle.runs.specs.Core.{coreOn, corePasses, coreMade, coreAfter, passesIn, coreAdds, CoreReady}
 
 module _ (x : Settings) (s t : Recording) where
-  -- one frame
-  pub after-one : (c : Core) → coreAfter x s t 1 c ≡ coreOn x s t c
+  -- one frame more
+  pub after-next : (n : ℕ) (c : Core) → coreOn x s t (coreAfter x s t n c) ≡ coreAfter x s t (n + 1) c
   unfolding coreAfter
-  after-one c = refl
+  after-next n c = rw add-one refl
 
-  pub adds-one : (c : Core) (os : List Float) → let m = coreMade x s t c (pair (getD os 0 nan) (getD os 1 nan)) in over (coreAdds x s t c) 0 2 os ≡ set (set os 0 (m .out .left)) 1 (m .out .right)
-  unfolding coreAfter over
-  adds-one c os = refl
-
-  pub passes-one : (c : Core) → passesIn x s t 1 c ≡ corePasses x s t c
-  unfolding coreAfter passesIn
-  passes-one c = omega arith
+  pub passes-next : (n : ℕ) (c : Core) → passesIn x s t n c ≡ 0 → corePasses x s t (coreAfter x s t n c) ≡ passesIn x s t (n + 1) c
+  unfolding passesIn
+  passes-next n c e = rw (add-one, e) (omega arith)
 
   -- so many frames, and then so many
   pub after-add : (a b : ℕ) (c : Core) → coreAfter x s t (a + b) c ≡ coreAfter x s t b (coreAfter x s t a c)

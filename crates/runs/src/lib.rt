@@ -455,11 +455,14 @@ impl Core {
         tail_ahead(tail, clip.frames, first)
     }
 
-    /// So many frames at once, in which nothing is decided anew, over the sums that stand there.
+    /// So many frames at once, in which nothing is decided anew, over the sums that stand there. No frames: nothing.
     fn run(self, pool: &[f32], song: Clip, clip: Clip, out: &mut [f32], n: usize) -> Core
-        requires { ⌜ CoreReady (length (now pool)) song clip self × Calm song clip n self × (n * 2 ≤ length (now out)) ⌝ }
+        requires { ⌜ CoreReady (length (now pool)) song clip self × (0 < n → Calm song clip n self) × (n * 2 ≤ length (now out)) ⌝ }
         ensures { λ r. ⌜ (r ≡ coreBy (song .frames) (clip .frames) n self) × (now (out .exit) ≡ over (overAdds (now (pool .entry)) (songPart song (self .playhead .transport)) clip (self .master) (self .fade .tail)) 0 (n * 2) (now (out .entry))) ⌝ }
     {
+        if n == 0 {
+            return self;
+        }
         let playhead = self.playhead;
         let handle = playhead.song;
         let t = playhead.transport;
@@ -510,7 +513,8 @@ impl Core {
         }
     }
 
-    /// Some frames over the sums that stand there: at once if nothing is decided anew in the first of them, else that one.
+    /// Some frames over the sums that stand there: those in which nothing is decided anew at once, and after them one by the
+    /// rules.
     fn go_on(
         self,
         settings: Settings,
@@ -524,27 +528,30 @@ impl Core {
         ensures { λ r. ⌜ (0 < r .frames) × (r .frames ≤ most) × (r .core ≡ coreAfter settings (recordingOf (now (pool .entry)) song) (recordingOf (now (pool .entry)) clip) (r .frames) self) × (now (out .exit) ≡ over (coreAdds settings (recordingOf (now (pool .entry)) song) (recordingOf (now (pool .entry)) clip) self) 0 (r .frames * 2) (now (out .entry))) × (r .passes ≡ passesIn settings (recordingOf (now (pool .entry)) song) (recordingOf (now (pool .entry)) clip) (r .frames) self) ⌝ }
     {
         let ahead = self.ahead(song, clip, most);
-        if ahead == 0 {
-            let sum = Pair {
-                left: out[0],
-                right: out[1],
-            };
-            let made = self.frame(settings, pool, song, clip, sum);
-            let pair = made.out;
-            out[0] = pair.left;
-            out[1] = pair.right;
-            let next = made.core;
+        let core = self.run(pool, song, clip, &mut out[..], ahead);
+        if ahead == most {
             return Gone {
-                core: next,
-                frames: 1,
-                passes: made.passes,
+                core: core,
+                frames: most,
+                passes: 0,
             };
         }
-        let next = self.run(pool, song, clip, out, ahead);
+        let left = ahead * 2;
+        let right = left + 1;
+        let sum = Pair {
+            left: out[left],
+            right: out[right],
+        };
+        let made = core.frame(settings, pool, song, clip, sum);
+        let pair = made.out;
+        out[left] = pair.left;
+        out[right] = pair.right;
+        let next = made.core;
+        let frames = ahead + 1;
         Gone {
             core: next,
-            frames: ahead,
-            passes: 0,
+            frames: frames,
+            passes: made.passes,
         }
     }
 }

@@ -1,6 +1,6 @@
 -- What a frame moves: nothing unless Playing; without a loop the position by 1, up to the length; the cursor by at most 1, or to a loop's start. Assumes nothing.
 use mathlib.Core.Path.{_≡_, refl, subst}
-use mathlib.Core.Bool.{true, false}
+use mathlib.Core.Bool.{Bool, true, false, _&&_, cond}
 use mathlib.Core.Logic.{_⊎_, inl, inr}
 use Prim.Native.Nat.{ℕ, _+_, _-_, _^_, _≤_, _<_, min}
 use native.Mathlib.Omega.{arith}
@@ -12,7 +12,7 @@ use Rattle.transport.specs.declared.TransportState.the-variants.{Stopped
 use Rattle.transport.specs.declared.LoopRange.{LoopRange}
 use Rattle.transport.specs.declared.LoopRange.the-variants.{Off, Range}
 use Rattle.transport.specs.declared.Transport.{Transport}
-use Rattle.transport.specs.Transport.{isPlaying, transport, movedTo, wrapTo, wrapIn, wrapOf, cursorOn, landIn, advanceOf, isPast, comesRound, stepOf}
+use Rattle.transport.specs.Transport.{isPlaying, transport, movedTo, wrapTo, wrapIn, wrapOf, cursorOn, landIn, advanceOf, pastEnd, isPast, comesRound, stepOf}
 
 -- if not Playing nothing moves
 pub rests : (frames extent : ℕ) (t : Transport) → t .laps < 2 ^ 64 → isPlaying (t .state) ≡ false → stepOf frames extent t ≡ record { transport = t; playing = false; cursor = t .cursor; passes = 0 }
@@ -61,6 +61,19 @@ wrap-in-keeps t (Range s e) = cond-both (Kept t) (leb (e .0) (t .position .0)) (
 pub wrap-keeps : (t : Transport) → Kept t (wrapOf t)
 unfolding wrapOf
 wrap-keeps t = cond-both (Kept t) (isPlaying (t .state)) (wrapIn (t .looped) t) t (wrap-in-keeps t (t .looped)) (refl, refl, refl)
+
+short-in : (t : Transport) (l : LoopRange) → pastEnd l (t .position .0) ≡ false → wrapIn l t ≡ t
+short-in t Off h = refl
+short-in t (Range s e) h = rw h
+
+-- where it does not pass, it moves nothing
+pub short-stays : (t : Transport) → isPast t ≡ false → wrapOf t ≡ t
+unfolding wrapOf isPast
+short-stays t h = go (isPlaying (t .state)) h
+  where
+    go : (b : Bool) → b && pastEnd (t .looped) (t .position .0) ≡ false → cond b (wrapIn (t .looped) t) t ≡ t
+    go true k = short-in t (t .looped) k
+    go false k = refl
 
 -- the song plays in a frame if it was Playing before it
 pub plays : (frames extent : ℕ) (t : Transport) → stepOf frames extent t .playing ≡ isPlaying (t .state)

@@ -3,7 +3,7 @@ use mathlib.Core.Path.{sym, _∙_}
 use native.Mathlib.Omega.{arith}
 use borrow.Author.Needs.{needs}
 use borrow.Author.Tests.{leb-false}
-use Rattle.transport.specs.Transport.{advanceOf}
+use Rattle.transport.specs.Transport.{advanceOf, comesRound}
 use Rattle.transport.proofs.Transport.advance.Statement.{statement}
 use Rattle.transport.proofs.Transport.advance.Tie as tie
 
@@ -36,35 +36,35 @@ add-risen-2 c =
     omega (arith, leb-false)
 
 returns : tie.Need-returns
-unfolding advanceOf
+unfolding advanceOf comesRound
 returns c =
     let playing = sym (c .before .before .before .before .before .before .before .is-playing .ensures) ∙ c .before .before .before .before .before .before .if1 .taken in
     let reached = sym (c .before .reaches .ensures) ∙ c .if2 .taken in
     simp (playing, c .before .before .enum-told .given .1, c .before .before .before .before .cursor-on .ensures, reached)
 
 returns-2 : tie.Need-returns-2
-unfolding advanceOf
+unfolding advanceOf comesRound
 returns-2 c =
     let playing = sym (c .before .before .before .before .before .before .before .is-playing .ensures) ∙ c .before .before .before .before .before .before .if1 .taken in
     let reached = sym (c .before .reaches .ensures) ∙ c .if2 .left in
     simp (playing, c .before .before .enum-told .given .1, c .before .before .before .before .cursor-on .ensures, reached)
 
 returns-3 : tie.Need-returns-3
-unfolding advanceOf
+unfolding advanceOf comesRound
 returns-3 c =
     let playing = sym (c .before .before .before .before .before .before .before .before .is-playing .ensures) ∙ c .before .before .before .before .before .before .before .if1 .taken in
     let reached = sym (c .before .reaches2 .ensures) ∙ c .if3 .taken in
     simp (playing, c .before .before .before .looped .given .1, reached)
 
 returns-4 : tie.Need-returns-4
-unfolding advanceOf
+unfolding advanceOf comesRound
 returns-4 c =
     let playing = sym (c .before .before .before .before .before .before .before .before .is-playing .ensures) ∙ c .before .before .before .before .before .before .before .if1 .taken in
     let reached = sym (c .before .reaches2 .ensures) ∙ c .if3 .left in
     simp (playing, c .before .before .before .looped .given .1, c .before .before .before .before .before .cursor-on .ensures, reached)
 
 returns-5 : tie.Need-returns-5
-unfolding advanceOf
+unfolding advanceOf comesRound
 returns-5 c = simp (sym (c .before .is-playing .ensures) ∙ c .if1 .left)
 
 pub advance-spec : {M : Type 1} → statement M

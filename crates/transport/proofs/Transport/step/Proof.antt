@@ -1,32 +1,35 @@
--- `Transport::step` meets its contract: rule a, then rule b, and the passes of both.
+-- `Transport::step` meets its contract: rule a passes, or moves nothing; then rule b.
+use mathlib.Core.Path.{sym, _∙_}
 use borrow.Author.Needs.{needs}
-use Rattle.transport.specs.Transport.{isPast, comesRound, stepOf}
+use Rattle.transport.specs.Transport.{stepOf}
 use Rattle.transport.proofs.Within.{fits-holds}
-use Rattle.transport.proofs.Moves.{wrap-keeps}
+use Rattle.transport.proofs.Moves.{short-stays}
 use Rattle.transport.proofs.Transport.step.Statement.{statement}
 use Rattle.transport.proofs.Transport.step.Tie as tie
 
+is-past-requires : tie.Need-is-past-requires
+is-past-requires c κs = search needs
+
 wrap-requires : tie.Need-wrap-requires
-wrap-requires c κs = fits-holds (c .args .extent .0) (c .args .self .looped) (c .pre)
+wrap-requires c κs = fits-holds (c .before .before .args .extent .0) (c .before .before .args .self .looped) (c .before .before .pre)
 
-is-playing-requires : tie.Need-is-playing-requires
-is-playing-requires c κs = search needs
-
-passes-of-requires : tie.Need-passes-of-requires
-passes-of-requires c κs = search needs
-
-advance-requires : tie.Need-advance-requires
-advance-requires c κs = search needs
-
-more-laps-requires : tie.Need-more-laps-requires
-more-laps-requires c κs = search needs
+read-on-requires : tie.Need-read-on-requires
+read-on-requires c κs = search needs
 
 returns : tie.Need-returns
-unfolding stepOf isPast comesRound
+unfolding stepOf
 returns c =
-    let w = c .before .before .before .before .before in
-    let kept = wrap-keeps (w .before .args .self) in
-    simp (c .more-laps .ensures, c .before .advance .ensures, c .before .before .passes-of .ensures, c .before .before .before .before .is-playing .ensures, w .wrap .ensures, kept .0, kept .1)
+    let past = sym (c .before .before .before .is-past .ensures) ∙ c .before .before .if1 .taken in
+    simp (c .read-on .ensures, c .before .wrap .ensures, past)
+
+read-on-requires-2 : tie.Need-read-on-requires-2
+read-on-requires-2 c κs = search needs
+
+returns-2 : tie.Need-returns-2
+unfolding stepOf
+returns-2 c =
+    let past = sym (c .before .before .is-past .ensures) ∙ c .before .if1 .left in
+    simp (c .read-on2 .ensures, short-stays (c .before .before .before .args .self) past, past)
 
 pub step-spec : {M : Type 1} → statement M
-step-spec = tie.close (tie.spec wrap-requires is-playing-requires passes-of-requires advance-requires more-laps-requires returns)
+step-spec = tie.close (tie.spec is-past-requires wrap-requires read-on-requires returns read-on-requires-2 returns-2)
