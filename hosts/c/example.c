@@ -47,7 +47,7 @@ static uint32_t play(void)
     TRY(tr_submit(&t, tr_swap(hall), tr_at_clock(2 * BAR)));
     TRY(tr_submit(&t, tr_stinger(bell, 0.5f), tr_at_clock(2 * BAR + BAR / 2)));
     while (tr_clock(&t) < 3 * BAR) {
-        TRY(tr_block(&t, out, LEN(out)));
+        TRY(tr_block(&t, out, LEN(out), NULL));
         fwrite(out, sizeof *out, LEN(out), stdout);
     }
     return 0;

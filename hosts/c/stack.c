@@ -23,6 +23,7 @@ static ThreshreedSnapshot snapshot;
 static ThreshreedMetrics metrics;
 static ThreshreedReport report;
 static size_t copied;
+static uint64_t passes;
 static Threshreed t;
 
 /* The calls, each in a function of its own; `nth` counts those of one name. */
@@ -37,7 +38,7 @@ CALL(retire, tr_retire(&t, clips[2]))
 CALL(submit, tr_submit(&t, script[nth].command, script[nth].at))
 CALL(transition, tr_transition(&t, nth, tr_at_song(600)))
 CALL(replay, tr_replay(&t, list, copied * THRESHREED_WORDS, &report))
-CALL(block, tr_block(&t, out, LEN(out)))
+CALL(block, tr_block(&t, out, LEN(out), &passes))
 CALL(start_capture, tr_start_capture(&t))
 CALL(stop_capture, tr_stop_capture(&t, list, LEN(list), &copied))
 CALL(take_snapshot, tr_snapshot(&t, &snapshot))

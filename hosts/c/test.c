@@ -35,7 +35,7 @@ static void expect_none(Threshreed *t)
     EXPECT(tr_submit(t, tr_play(), tr_now()) == THRESHREED_NOT_WELL_FORMED);
     EXPECT(tr_transition(t, 0, tr_now()) == THRESHREED_NOT_WELL_FORMED);
     EXPECT(tr_replay(t, NULL, 0, NULL) == THRESHREED_NOT_WELL_FORMED);
-    EXPECT(tr_block(t, out, LEN(out)) == THRESHREED_NOT_WELL_FORMED);
+    EXPECT(tr_block(t, out, LEN(out), NULL) == THRESHREED_NOT_WELL_FORMED);
     EXPECT(tr_start_capture(t) == THRESHREED_NOT_WELL_FORMED);
     EXPECT(tr_stop_capture(t, NULL, 0, NULL) == THRESHREED_NOT_WELL_FORMED);
     EXPECT(tr_snapshot(t, NULL) == THRESHREED_NOT_WELL_FORMED);
@@ -62,7 +62,7 @@ static void play(Host *h)
     lend(h);
     EXPECT(tr_open(&h->t, 48000, pair, LEN(pair), 48000, 8) == 0);
     EXPECT(tr_submit(&h->t, tr_play(), tr_now()) == 0 && tr_submit(&h->t, tr_gain(0.5f), tr_now()) == 0);
-    EXPECT(tr_submit(&h->t, tr_stop(), tr_at_clock(2)) == 0 && tr_block(&h->t, h->out, 2) == 0);
+    EXPECT(tr_submit(&h->t, tr_stop(), tr_at_clock(2)) == 0 && tr_block(&h->t, h->out, 2, NULL) == 0);
 }
 
 /* The same session in every field; the bytes between fields are nobody's. */
@@ -77,7 +77,7 @@ static bool same(const ThreshreedSession *a, const ThreshreedSession *b)
     }
     return SAME(settings.rate) && SAME(settings.queue) && SAME(settings.capture) && SAME(settings.pool) &&
            SAME(used) && SAME(last) && SAME(clock) && SAME(state) && SAME(position) && SAME(cursor) &&
-           SAME(looped.set) && SAME(looped.start) && SAME(looped.end) && SAME(song) && SAME(master) &&
+           SAME(looped.set) && SAME(looped.start) && SAME(looped.end) && SAME(laps) && SAME(song) && SAME(master) &&
            SAME(tail.sounding) && SAME(tail.song) && SAME(tail.cursor) && SAME(tail.weight) && SAME(voices) &&
            SAME(counters) && SAME(queued) && SAME(number) && SAME(deepest) && SAME(dropped) && SAME(capturing) &&
            SAME(captured);
@@ -103,7 +103,8 @@ static void refused_openings(void)
     EXPECT(same(&before.t.session, &host.t.session));
     EXPECT(memcmp(before.queue, host.queue, sizeof host.queue) == 0);
     EXPECT(memcmp(before.pool, host.pool, sizeof host.pool) == 0);
-    EXPECT(tr_block(&host.t, host.out, LEN(host.out)) == 0 && tr_block(&other.t, other.out, LEN(other.out)) == 0);
+    EXPECT(tr_block(&host.t, host.out, LEN(host.out), NULL) == 0);
+    EXPECT(tr_block(&other.t, other.out, LEN(other.out), NULL) == 0);
     EXPECT(memcmp(host.out, other.out, sizeof host.out) == 0 && host.out[0] > 0.2f && host.out[2] == 0.0f);
     EXPECT(same(&host.t.session, &other.t.session) && tr_clock(&host.t) == 3);
 }
@@ -123,6 +124,46 @@ static void lists_in_words(void)
     EXPECT(list[1] == 4 && list[2] == THRESHREED_PAUSE && list[5] == 99 && list[6] == 99);
     EXPECT(tr_replay(&host.t, list, 4, &report) == 0 && report.taken == 0 && report.skipped == 0);
     EXPECT(tr_replay(&host.t, list, LEN(list), &report) == 0 && report.taken == 1 && report.skipped == 0);
+}
+
+/* A block tells its passes, and the session keeps the laps since its loop was set. */
+static void passes_and_laps(void)
+{
+    float out[2 * 7];
+    uint64_t passes = 99;
+    ThreshreedSnapshot snapshot;
+    ThreshreedHandle hall;
+    static Host host;
+    lend(&host);
+    EXPECT(tr_open(&host.t, 48000, pair, LEN(pair), 48000, 8) == 0 && tr_laps(&host.t) == 0);
+    EXPECT(tr_load_song(&host.t, pair, LEN(pair), 48000, 8, &hall) == 0);
+    EXPECT(tr_submit(&host.t, tr_loop(0, 2), tr_now()) == 0 && tr_submit(&host.t, tr_play(), tr_now()) == 0);
+    EXPECT(tr_block(&host.t, out, 3, &passes) == THRESHREED_ODD_SAMPLES && passes == 99);
+    EXPECT(tr_block(&host.t, out, LEN(out), &passes) == 0 && passes == 3 && tr_laps(&host.t) == 3);
+    EXPECT(tr_block(&host.t, NULL, 8, &passes) == 0 && passes == 0 && tr_laps(&host.t) == 3);
+    EXPECT(tr_block(&host.t, out, 2, NULL) == 0 && tr_laps(&host.t) == 4);
+
+    /* From 3 to 1 by rule a, and in the same frame to 0 by rule b. A loop past the length is not set. */
+    EXPECT(tr_submit(&host.t, tr_seek(3), tr_now()) == 0 && tr_submit(&host.t, tr_loop(0, 9), tr_now()) == 0);
+    EXPECT(tr_block(&host.t, out, 2, &passes) == 0 && passes == 2 && tr_laps(&host.t) == 6);
+
+    /* A loop, a cleared loop, a swap and a snapshot set the laps back; the block tells the passes before it too. */
+    EXPECT(tr_submit(&host.t, tr_loop(0, 1), tr_at_clock(11)) == 0);
+    EXPECT(tr_block(&host.t, out, 2 * 3, &passes) == 0 && passes == 2 && tr_laps(&host.t) == 1);
+    EXPECT(tr_submit(&host.t, tr_clear_loop(), tr_at_clock(13)) == 0);
+    EXPECT(tr_block(&host.t, out, 2 * 2, &passes) == 0 && passes == 1 && tr_laps(&host.t) == 0);
+    EXPECT(tr_submit(&host.t, tr_loop(0, 1), tr_now()) == 0 && tr_block(&host.t, out, 2 * 2, NULL) == 0);
+    EXPECT(tr_laps(&host.t) == 3 && tr_snapshot(&host.t, &snapshot) == 0);
+    EXPECT(tr_apply_snapshot(&host.t, snapshot) == 0 && tr_laps(&host.t) == 0);
+    EXPECT(tr_submit(&host.t, tr_swap(hall), tr_at_clock(17)) == 0);
+    EXPECT(tr_block(&host.t, out, 2 * 3, &passes) == 0 && passes == 1 && tr_laps(&host.t) == 0);
+
+    /* At 2^64 - 1 they stop; a block tells its passes. */
+    EXPECT(tr_submit(&host.t, tr_loop(0, 8), tr_now()) == 0 && tr_submit(&host.t, tr_seek(7), tr_now()) == 0);
+    EXPECT(tr_block(&host.t, out, 2, NULL) == 0 && tr_laps(&host.t) == 1);
+    host.t.session.laps = UINT64_MAX;
+    EXPECT(tr_submit(&host.t, tr_seek(7), tr_now()) == 0 && tr_block(&host.t, out, 2, &passes) == 0 && passes == 1);
+    EXPECT(tr_laps(&host.t) == UINT64_MAX);
 }
 
 /* NULL for a result that is not wanted. */
@@ -152,6 +193,7 @@ int main(void)
 
     refused_openings();
     lists_in_words();
+    passes_and_laps();
     unwanted_results();
 
     /* Nothing is lent. */
@@ -172,8 +214,8 @@ int main(void)
 
     /* A song of two frames, heard. */
     EXPECT(tr_submit(&t, tr_play(), tr_now()) == 0 && t.session.number == 1 && tr_queue_depth(&t) == 1);
-    EXPECT(tr_block(&t, NULL, 8) == 0 && tr_queue_depth(&t) == 1);
-    EXPECT(tr_block(&t, out, LEN(out)) == 0);
+    EXPECT(tr_block(&t, NULL, 8, NULL) == 0 && tr_queue_depth(&t) == 1);
+    EXPECT(tr_block(&t, out, LEN(out), NULL) == 0);
     EXPECT(memcmp(out, pair, sizeof pair) == 0 && out[4] == 0.0f && out[7] == 0.0f);
     EXPECT(tr_clock(&t) == 4 && tr_position(&t) == 2 && tr_state(&t) == THRESHREED_STOPPED);
 
@@ -202,7 +244,8 @@ int main(void)
     /* A loop is senseless or not whatever the song's length; a snapshot's that does not fit is not set. */
     EXPECT(tr_submit(&t, tr_loop(5, 5), tr_now()) == THRESHREED_SENSELESS_LOOP);
     EXPECT(tr_submit(&t, tr_loop(6, 5), tr_now()) == THRESHREED_SENSELESS_LOOP);
-    EXPECT(tr_submit(&t, tr_loop(5, 6), tr_now()) == 0 && tr_block(&t, out, 2) == 0 && tr_loop_range(&t).set == 0);
+    EXPECT(tr_submit(&t, tr_loop(5, 6), tr_now()) == 0 && tr_block(&t, out, 2, NULL) == 0);
+    EXPECT(tr_loop_range(&t).set == 0);
     snapshot.looped = (ThreshreedLoop){1, 1, 1};
     EXPECT(tr_apply_snapshot(&t, snapshot) == 0 && tr_loop_range(&t).set == 0);
 

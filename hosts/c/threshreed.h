@@ -171,7 +171,7 @@ typedef struct {
     uint64_t fired;
 } ThreshreedCounters;
 
-/* Capturing: 0 or 1. */
+/* Laps: those since the loop was set. Capturing: 0 or 1. */
 typedef struct {
     ThreshreedSettings settings;
     uint32_t used;
@@ -182,6 +182,7 @@ typedef struct {
     uint64_t position;
     uint64_t cursor;
     ThreshreedLoop looped;
+    uint64_t laps;
     ThreshreedHandle song;
     ThreshreedRamp master;
     ThreshreedTail tail;
@@ -250,6 +251,12 @@ typedef struct {
     uint64_t number;
     ThreshreedSession session;
 } ThreshreedSubmitted;
+
+typedef struct {
+    uint32_t refusal;
+    uint64_t passes;
+    ThreshreedSession session;
+} ThreshreedBlocked;
 
 typedef struct {
     uint32_t refusal;
@@ -329,7 +336,7 @@ THRESHREED_OFFSET(Counters, executed, 0);
 THRESHREED_OFFSET(Counters, swaps, 8);
 THRESHREED_OFFSET(Counters, fired, 16);
 
-THRESHREED_SIZE(Session, 2032);
+THRESHREED_SIZE(Session, 2040);
 THRESHREED_OFFSET(Session, settings, 0);
 THRESHREED_OFFSET(Session, used, 32);
 THRESHREED_OFFSET(Session, last, 36);
@@ -339,17 +346,18 @@ THRESHREED_OFFSET(Session, state, 1328);
 THRESHREED_OFFSET(Session, position, 1336);
 THRESHREED_OFFSET(Session, cursor, 1344);
 THRESHREED_OFFSET(Session, looped, 1352);
-THRESHREED_OFFSET(Session, song, 1376);
-THRESHREED_OFFSET(Session, master, 1384);
-THRESHREED_OFFSET(Session, tail, 1400);
-THRESHREED_OFFSET(Session, voices, 1440);
-THRESHREED_OFFSET(Session, counters, 1960);
-THRESHREED_OFFSET(Session, queued, 1984);
-THRESHREED_OFFSET(Session, number, 1992);
-THRESHREED_OFFSET(Session, deepest, 2000);
-THRESHREED_OFFSET(Session, dropped, 2008);
-THRESHREED_OFFSET(Session, capturing, 2016);
-THRESHREED_OFFSET(Session, captured, 2024);
+THRESHREED_OFFSET(Session, laps, 1376);
+THRESHREED_OFFSET(Session, song, 1384);
+THRESHREED_OFFSET(Session, master, 1392);
+THRESHREED_OFFSET(Session, tail, 1408);
+THRESHREED_OFFSET(Session, voices, 1448);
+THRESHREED_OFFSET(Session, counters, 1968);
+THRESHREED_OFFSET(Session, queued, 1992);
+THRESHREED_OFFSET(Session, number, 2000);
+THRESHREED_OFFSET(Session, deepest, 2008);
+THRESHREED_OFFSET(Session, dropped, 2016);
+THRESHREED_OFFSET(Session, capturing, 2024);
+THRESHREED_OFFSET(Session, captured, 2032);
 
 THRESHREED_SIZE(Command, 32);
 THRESHREED_OFFSET(Command, kind, 0);
@@ -381,36 +389,41 @@ THRESHREED_OFFSET(Metrics, deepest, 24);
 THRESHREED_OFFSET(Metrics, swaps, 32);
 THRESHREED_OFFSET(Metrics, fired, 40);
 
-THRESHREED_SIZE(Answered, 2040);
+THRESHREED_SIZE(Answered, 2048);
 THRESHREED_OFFSET(Answered, refusal, 0);
 THRESHREED_OFFSET(Answered, session, 8);
 
-THRESHREED_SIZE(Loaded, 2048);
+THRESHREED_SIZE(Loaded, 2056);
 THRESHREED_OFFSET(Loaded, refusal, 0);
 THRESHREED_OFFSET(Loaded, handle, 4);
 THRESHREED_OFFSET(Loaded, session, 16);
 
-THRESHREED_SIZE(Submitted, 2048);
+THRESHREED_SIZE(Submitted, 2056);
 THRESHREED_OFFSET(Submitted, refusal, 0);
 THRESHREED_OFFSET(Submitted, number, 8);
 THRESHREED_OFFSET(Submitted, session, 16);
 
-THRESHREED_SIZE(Replayed, 2064);
+THRESHREED_SIZE(Blocked, 2056);
+THRESHREED_OFFSET(Blocked, refusal, 0);
+THRESHREED_OFFSET(Blocked, passes, 8);
+THRESHREED_OFFSET(Blocked, session, 16);
+
+THRESHREED_SIZE(Replayed, 2072);
 THRESHREED_OFFSET(Replayed, refusal, 0);
 THRESHREED_OFFSET(Replayed, report, 8);
 THRESHREED_OFFSET(Replayed, session, 32);
 
-THRESHREED_SIZE(Stopped, 2048);
+THRESHREED_SIZE(Stopped, 2056);
 THRESHREED_OFFSET(Stopped, refusal, 0);
 THRESHREED_OFFSET(Stopped, copied, 8);
 THRESHREED_OFFSET(Stopped, session, 16);
 
-THRESHREED_SIZE(Snapped, 2080);
+THRESHREED_SIZE(Snapped, 2088);
 THRESHREED_OFFSET(Snapped, refusal, 0);
 THRESHREED_OFFSET(Snapped, snapshot, 8);
 THRESHREED_OFFSET(Snapped, session, 48);
 
-THRESHREED_SIZE(Metered, 2088);
+THRESHREED_SIZE(Metered, 2096);
 THRESHREED_OFFSET(Metered, refusal, 0);
 THRESHREED_OFFSET(Metered, metrics, 8);
 THRESHREED_OFFSET(Metered, session, 56);
@@ -446,9 +459,9 @@ ThreshreedReplayed threshreed_replay(ThreshreedSession session, uint64_t *queue,
                                      size_t list_len);
 
 /* Makes a block: half as many frames as the output has samples. */
-ThreshreedAnswered threshreed_block(ThreshreedSession session, const uint64_t *queue, size_t queue_len,
-                                    const uint64_t *capture, size_t capture_len, const float *pool, size_t pool_len,
-                                    float *out, size_t out_len);
+ThreshreedBlocked threshreed_block(ThreshreedSession session, const uint64_t *queue, size_t queue_len,
+                                   const uint64_t *capture, size_t capture_len, const float *pool, size_t pool_len,
+                                   float *out, size_t out_len);
 
 /* Starts capture, empty. */
 ThreshreedAnswered threshreed_start_capture(ThreshreedSession session, const uint64_t *queue, size_t queue_len,
@@ -592,13 +605,17 @@ static inline uint32_t tr_replay(Threshreed *t, const uint64_t *list, size_t lis
     return r.refusal;
 }
 
-/* Makes a block of half as many frames as `out` has samples, each due command at its frame. A refused block leaves
- * `out` as it was. */
-static inline uint32_t tr_block(Threshreed *t, float *out, size_t out_len)
+/* Makes a block of half as many frames as `out` has samples, each due command at its frame. `passes` tells how many
+ * times the playhead passed from a loop's end to its start in it, whatever set the laps back in between. A refused
+ * block leaves `out` as it was. */
+static inline uint32_t tr_block(Threshreed *t, float *out, size_t out_len, uint64_t *passes)
 {
-    ThreshreedAnswered r = threshreed_block(t->session, t->queue, t->queue_len, t->capture, t->capture_len, t->pool,
-                                            t->pool_len, out ? out : t->pool, out ? out_len : 0);
+    ThreshreedBlocked r = threshreed_block(t->session, t->queue, t->queue_len, t->capture, t->capture_len, t->pool,
+                                           t->pool_len, out ? out : t->pool, out ? out_len : 0);
     t->session = r.session;
+    if (r.refusal == 0 && passes) {
+        *passes = r.passes;
+    }
     return r.refusal;
 }
 
@@ -668,6 +685,11 @@ static inline uint32_t tr_state(const Threshreed *t) { return t->session.state; 
 /* The loop, if one is set. */
 static inline ThreshreedLoop tr_loop_range(const Threshreed *t) { return t->session.looped; }
 
+/* The laps: how many times the playhead passed from the loop's end to its start since the loop was set. Setting or
+ * clearing a loop, by command or snapshot, and a swap make them 0; a loop that is not set leaves them. They stop at
+ * 2^64 - 1. */
+static inline uint64_t tr_laps(const Threshreed *t) { return t->session.laps; }
+
 /* The master gain: the value that it is heading for. */
 static inline float tr_master_gain(const Threshreed *t) { return t->session.master.target; }
 
@@ -698,7 +720,7 @@ static inline ThreshreedCommand tr_play(void) { return tr_command(THRESHREED_PLA
 
 static inline ThreshreedCommand tr_pause(void) { return tr_command(THRESHREED_PAUSE); }
 
-/* To position 0; a loop is kept. */
+/* To position 0; loop and laps are kept. */
 static inline ThreshreedCommand tr_stop(void) { return tr_command(THRESHREED_STOP); }
 
 /* To a song frame, held to the song's length. */

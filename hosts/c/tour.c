@@ -1,4 +1,5 @@
-/* A tour of two minutes through three rooms, written as a WAV file: `tour FILE [BARS]`.
+/* A tour of two minutes through three rooms, written as a WAV file: `tour FILE [BARS]`. It tells after how many bars
+ * the lights change, which is when a loop has come round for the third time, and what the whole tour did.
  *
  * It makes its own clips, in plain float steps that hosts/rust/examples/tour.rs takes in the same order, so that both
  * write the same samples (on a little-endian machine, without fused steps: -ffp-contract=off). The pool has room for
@@ -155,6 +156,7 @@ int main(int count, char **arguments)
     }
     put_head(file, (uint32_t)last * BAR);
     float out[2 * BLOCK], peak = 0.0f;
+    uint64_t passes = 0;
     for (int bar = 0; bar < last; bar += 1) {
         switch (bar) {
         /* The porch, round and round, and somebody at the door. */
@@ -240,7 +242,12 @@ int main(int count, char **arguments)
             break;
         }
         for (int block = 0; block < BAR / BLOCK; block += 1) {
-            need(tr_block(&t, out, LEN(out)));
+            uint64_t more;
+            need(tr_block(&t, out, LEN(out), &more));
+            passes += more;
+            if (more > 0 && tr_laps(&t) == 3) {
+                printf("lights   change after %d bars\n", bar + 1);
+            }
             fwrite(out, sizeof *out, LEN(out), file);
             for (size_t i = 0; i < LEN(out); i += 1) {
                 float level = out[i] < 0.0f ? -out[i] : out[i];
@@ -262,6 +269,8 @@ int main(int count, char **arguments)
     printf("deepest  %zu\n", metrics.deepest);
     printf("swaps    %llu\n", (unsigned long long)metrics.swaps);
     printf("bells    %llu\n", (unsigned long long)metrics.fired);
+    printf("passes   %llu\n", (unsigned long long)passes);
+    printf("laps     %llu\n", (unsigned long long)tr_laps(&t));
     printf("peak     %.6f\n", (double)peak);
     return 0;
 }

@@ -37,7 +37,9 @@ fn tell(session: &mut Session, told: &mut Vec<Told>, command: Command, at: At) {
 fn read(session: &Session) -> String {
     let looped = match session.loop_range() {
         None => "no loop".to_string(),
-        Some(range) => format!("loop {} to {}", range.start.0, range.end.0),
+        Some(LoopRange { start, end }) => {
+            format!("loop {} to {}, laps {}", start.0, end.0, session.laps())
+        }
     };
     format!(
         "{:?} at {}, gain {}, {looped}, {} queued",

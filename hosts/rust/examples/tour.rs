@@ -1,4 +1,5 @@
-//! A tour of two minutes through three rooms, written as a WAV file: `tour FILE [BARS]`.
+//! A tour of two minutes through three rooms, written as a WAV file: `tour FILE [BARS]`. It tells after how many bars
+//! the lights change, which is when a loop has come round for the third time, and what the whole tour did.
 //!
 //! It makes its own clips, in plain f32 steps that hosts/c/tour.c takes in the same order, so that both write the same
 //! samples. The pool has room for two rooms and the bell: the third room comes where the first one was.
@@ -152,6 +153,7 @@ fn main() -> Result<(), Box<dyn Error>> {
 
     let mut wav = Wav::create(&path, last * BAR)?;
     let mut out = [0.0; 2 * BLOCK];
+    let mut passes = 0;
     for bar in 0..last {
         match bar {
             // The porch, round and round, and somebody at the door.
@@ -228,7 +230,11 @@ fn main() -> Result<(), Box<dyn Error>> {
             _ => {}
         }
         for _ in 0..BAR / BLOCK {
-            session.block(&mut out)?;
+            let more = session.block(&mut out)?;
+            passes += more;
+            if more > 0 && session.laps() == 3 {
+                println!("lights   change after {} bars", bar + 1);
+            }
             wav.write(&out)?;
         }
         eprint!("\rbar {} of {last}", bar + 1);
@@ -242,6 +248,8 @@ fn main() -> Result<(), Box<dyn Error>> {
     println!("deepest  {}", metrics.deepest);
     println!("swaps    {}", metrics.swaps);
     println!("bells    {}", metrics.fired);
+    println!("passes   {passes}");
+    println!("laps     {}", session.laps());
     println!("peak     {:.6}", wav.peak);
     Ok(())
 }

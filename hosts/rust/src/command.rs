@@ -43,7 +43,7 @@ pub struct LoopRange {
 pub enum Command {
     Play,
     Pause,
-    /// To position 0; a loop is kept.
+    /// To position 0; loop and laps are kept.
     Stop,
     /// To a song frame, held to the song's length.
     Seek(SongFrame),
@@ -83,7 +83,7 @@ pub struct Snapshot {
     pub position: SongFrame,
     pub state: State,
     pub gain: f32,
-    /// If it does not fit the song that plays, the loop stays as it is.
+    /// If it does not fit the song that plays, loop and laps stay as they are.
     pub looped: Option<LoopRange>,
 }
 

@@ -25,6 +25,8 @@
 //! # Ok::<(), Box<dyn std::error::Error>>(())
 //! ```
 //!
+//! A block answers how often a loop came round in it, and [`Session::laps`] how often since the loop was set.
+//!
 //! `examples/tour.rs` plays two minutes to a WAV file, `examples/told.rs` prints what each command did.
 
 #![no_std]

@@ -86,7 +86,7 @@ pub struct Counters {
     pub fired: u64,
 }
 
-/// State: 0 stopped, 1 playing, 2 paused. Capturing: 0 or 1.
+/// State: 0 stopped, 1 playing, 2 paused. Laps: those since the loop was set. Capturing: 0 or 1.
 #[repr(C)]
 #[derive(Clone, Copy, Debug, PartialEq)]
 pub struct Session {
@@ -99,6 +99,7 @@ pub struct Session {
     pub position: u64,
     pub cursor: u64,
     pub looped: Loop,
+    pub laps: u64,
     pub song: Handle,
     pub master: Ramp,
     pub tail: Tail,
@@ -181,6 +182,15 @@ pub struct Loaded {
 pub struct Submitted {
     pub refusal: u32,
     pub number: u64,
+    pub session: Session,
+}
+
+/// Passes: how many times the playhead passed from a loop's end to its start in the block.
+#[repr(C)]
+#[derive(Clone, Copy, Debug, PartialEq)]
+pub struct Blocked {
+    pub refusal: u32,
+    pub passes: u64,
     pub session: Session,
 }
 
@@ -295,7 +305,7 @@ unsafe extern "C" {
         pool_len: usize,
         out: *mut f32,
         out_len: usize,
-    ) -> Answered;
+    ) -> Blocked;
 
     fn threshreed_start_capture(
         session: Session,
@@ -480,7 +490,7 @@ pub fn block(
     capture: &[u64],
     pool: &[f32],
     out: &mut [f32],
-) -> Answered {
+) -> Blocked {
     unsafe {
         threshreed_block(
             session,

@@ -234,10 +234,13 @@ impl<'a> Session<'a> {
     }
 
     /// Makes a block of half as many frames as `out` has samples, and executes each command that is due in it at its
-    /// frame. A refused block leaves `out` as it was.
-    pub fn block(&mut self, out: &mut [f32]) -> Result<(), Refusal> {
-        let answered = raw::block(self.raw, self.queue, self.capture, self.pool, out);
-        self.answer(answered)
+    /// frame. Answers how many times the playhead passed from a loop's end to its start in it, whatever set the
+    /// [`laps`](Session::laps) back in between. A refused block leaves `out` as it was.
+    pub fn block(&mut self, out: &mut [f32]) -> Result<u64, Refusal> {
+        let blocked = raw::block(self.raw, self.queue, self.capture, self.pool, out);
+        self.raw = blocked.session;
+        Refusal::check(blocked.refusal)?;
+        Ok(blocked.passes)
     }
 
     /// Starts capture, empty, also while it runs.
@@ -307,6 +310,38 @@ impl<'a> Session<'a> {
     /// The loop, if one is set.
     pub fn loop_range(&self) -> Option<LoopRange> {
         LoopRange::of(self.raw.looped)
+    }
+
+    /// The laps: how many times the playhead passed from the loop's end to its start since the loop was set. Setting or
+    /// clearing a loop, by command or snapshot, and a swap make them 0; a loop that is not set leaves them. They stop
+    /// at 2^64 - 1.
+    ///
+    /// A bar goes round, and the lights change after its third pass:
+    ///
+    /// ```
+    /// use threshreed::{At, ClockFrame, Command, LoopRange, Song, SongFrame, Stores};
+    ///
+    /// let bar = [0.25; 2 * 1_000];
+    /// let mut stores = Stores::<8, 0, 1_000>::new();
+    /// let mut session = stores.open(48_000, Song::new(&bar, 48_000))?;
+    /// let (start, end) = (SongFrame(0), SongFrame(1_000));
+    /// session.submit(Command::Loop(LoopRange { start, end }), At::Immediate)?;
+    /// session.submit(Command::Play, At::Immediate)?;
+    ///
+    /// let mut lights = "dim";
+    /// let mut out = [0.0; 2 * 480];
+    /// while lights == "dim" {
+    ///     let passes = session.block(&mut out)?;
+    ///     if passes > 0 && session.laps() >= 3 {
+    ///         lights = "bright";
+    ///     }
+    /// }
+    /// // The third pass is at frame 3,000, in the seventh block.
+    /// assert_eq!((session.laps(), session.clock()), (3, ClockFrame(7 * 480)));
+    /// # Ok::<(), threshreed::Refusal>(())
+    /// ```
+    pub const fn laps(&self) -> u64 {
+        self.raw.laps
     }
 
     /// The master gain: the value that it is heading for.

@@ -121,7 +121,9 @@ fn step(session: &mut Session, dice: &mut Dice, handles: &mut Vec<Handle>) -> Re
         _ => {
             let mut out = vec![f32::NAN; dice.below(80) as usize];
             let clock = session.clock().0;
-            session.block(&mut out)?;
+            let passes = session.block(&mut out)?;
+            // At most two a frame.
+            assert!(passes <= out.len() as u64);
             assert_eq!(session.clock().0, clock + out.len() as u64 / 2);
             assert!(out.iter().all(|x| x.is_finite()));
             Ok(())
@@ -147,6 +149,7 @@ fn calls_with_any_arguments() {
             assert_eq!(session.metrics().unwrap().rendered, session.clock().0);
             assert_eq!(session.snapshot().unwrap().state, session.state());
             assert!(session.is_live(session.song()));
+            assert!(session.loop_range().is_some() || session.laps() == 0);
         }
     }
     // The rest is out of such a host's reach, or asks for larger stores (8, 17) or a second rate (13).

@@ -66,6 +66,7 @@ fn opening_is_stopped_at_0_with_gain_1() {
     assert_eq!(session.position(), SongFrame(0));
     assert_eq!(session.state(), State::Stopped);
     assert_eq!(session.loop_range(), None);
+    assert_eq!(session.laps(), 0);
     assert_eq!(session.master_gain(), 1.0);
     assert_eq!(session.queue_depth(), 0);
     assert!(session.is_live(session.song()));

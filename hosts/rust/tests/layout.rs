@@ -46,7 +46,7 @@ fn the_header_asserts_the_layout_of_the_raw_types() {
         Voices { table, count }
         Counters { executed, swaps, fired }
         Session {
-            settings, used, last, clips, clock, state, position, cursor, looped, song, master, tail, voices,
+            settings, used, last, clips, clock, state, position, cursor, looped, laps, song, master, tail, voices,
             counters, queued, number, deepest, dropped, capturing, captured
         }
         Command { kind, gain, clip, frame, end }
@@ -57,13 +57,14 @@ fn the_header_asserts_the_layout_of_the_raw_types() {
         Answered { refusal, session }
         Loaded { refusal, handle, session }
         Submitted { refusal, number, session }
+        Blocked { refusal, passes, session }
         Replayed { refusal, report, session }
         Stopped { refusal, copied, session }
         Snapped { refusal, snapshot, session }
         Metered { refusal, metrics, session }
     };
     assert_eq!(expected, lines(&["THRESHREED_SIZE(", "THRESHREED_OFFSET("]));
-    assert_eq!(size_of::<raw::Session>(), 2_032);
+    assert_eq!(size_of::<raw::Session>(), 2_040);
 }
 
 /// `NotWellFormed` as the header writes it.

@@ -99,7 +99,7 @@ fn blocks() {
     let mut out = [9.0; 3];
     assert_eq!(session.block(&mut out), Err(OddSamples));
     assert_eq!(out, [9.0; 3]);
-    assert_eq!(session.block(&mut []), Ok(()));
+    assert_eq!(session.block(&mut []), Ok(0));
     assert_eq!(session.queue_depth(), 1);
 }
 
@@ -225,6 +225,7 @@ impl ByHand {
         let mut out = [9.0; 2];
         let answered = self.block(&mut out);
         if answered.refusal != 0 {
+            assert_eq!(answered.passes, 0);
             assert_eq!(answered.session, self.session);
             assert_eq!(out, [9.0; 2]);
         }

@@ -34,7 +34,7 @@ impl ByHand {
         }
     }
 
-    pub fn block(&self, out: &mut [f32]) -> raw::Answered {
+    pub fn block(&self, out: &mut [f32]) -> raw::Blocked {
         raw::block(self.session, &self.queue, &self.capture, &self.pool, out)
     }
 }
