@@ -104,10 +104,13 @@ impl Both {
     }
 }
 
-/// Two answers that differ; of samples and records the first that does.
+/// Two answers that differ; of samples and records the first that does, of blocks with the same samples the passes.
 fn apart(ours: Answer, theirs: Answer) -> (String, String) {
     match (&ours, &theirs) {
-        (Answer::Samples(a), Answer::Samples(b)) => first_apart(a, b, |place, bits| {
+        (Answer::Made(a, ours), Answer::Made(b, theirs)) if a == b => {
+            (format!("{ours} passes"), format!("{theirs} passes"))
+        }
+        (Answer::Made(a, _), Answer::Made(b, _)) => first_apart(a, b, |place, bits| {
             let sample = f32::from_bits(*bits);
             format!(
                 "frame {} of the block: {sample:?} ({bits:#010x})",

@@ -11,13 +11,16 @@ use crate::script::{kind, state};
 /// The frames that a swap's tail sounds.
 const TAIL: u32 = 1024;
 
-/// As much of a session as decides where the song and the tail read.
+/// As much of a session as decides where the song and the tail read, and how often its loop has come round.
 #[derive(Clone, Copy, Debug, PartialEq)]
 struct Playhead {
     state: u32,
     position: u64,
     cursor: u64,
     looped: Option<(u64, u64)>,
+    laps: u64,
+    /// The passes made on the way.
+    passes: u64,
     song: Handle,
     tail: Option<Tail>,
 }
@@ -62,9 +65,13 @@ impl Walk {
         unreachable!("the last round returns")
     }
 
-    /// Panics unless our session stands where the walk ended.
-    pub fn check(&self, session: &Session) {
-        assert_eq!(self.end, Playhead::of(session), "the playhead strayed");
+    /// Panics unless our session stands where the walk ended, and our block answered as many passes.
+    pub fn check(&self, session: &Session, passes: u64) {
+        let end = Playhead {
+            passes,
+            ..Playhead::of(session)
+        };
+        assert_eq!(self.end, end, "the playhead strayed");
     }
 }
 
@@ -77,6 +84,8 @@ impl Playhead {
             position: session.position,
             cursor: session.cursor,
             looped: (looped.set == 1).then_some((looped.start, looped.end)),
+            laps: session.laps,
+            passes: 0,
             song: session.song,
             tail: (tail.sounding == 1).then_some(Tail {
                 cursor: tail.cursor,
@@ -95,6 +104,7 @@ impl Playhead {
             {
                 self.position = start + (self.position - start) % (end - start);
                 self.cursor = start;
+                self.pass();
             }
             if self.cursor > song.frames {
                 return None;
@@ -105,6 +115,7 @@ impl Playhead {
                 Some((start, end)) if self.position == end => {
                     self.position = start;
                     self.cursor = start;
+                    self.pass();
                 }
                 None if self.position >= song.extent => {
                     self.position = song.extent;
@@ -130,6 +141,18 @@ impl Playhead {
         Some(self)
     }
 
+    /// From the loop's end to its start.
+    fn pass(&mut self) {
+        self.laps += 1;
+        self.passes += 1;
+    }
+
+    /// Another loop, or none.
+    fn set_loop(&mut self, looped: Option<(u64, u64)>) {
+        self.looped = looped;
+        self.laps = 0;
+    }
+
     fn execute(&mut self, ours: &Ours, row: &Row) {
         let extent = ours.clip(self.song).extent;
         let [_, _, kind, first, second] = *row;
@@ -146,9 +169,9 @@ impl Playhead {
                 self.cursor = first;
             }
             kind::LOOP if first < second && second <= extent => {
-                self.looped = Some((first, second));
+                self.set_loop(Some((first, second)));
             }
-            kind::CLEAR_LOOP => self.looped = None,
+            kind::CLEAR_LOOP => self.set_loop(None),
             kind::SWAP => {
                 self.tail = Some(Tail {
                     cursor: self.cursor,
@@ -162,7 +185,7 @@ impl Playhead {
                 self.state = state::PLAYING;
                 self.position = 0;
                 self.cursor = 0;
-                self.looped = None;
+                self.set_loop(None);
             }
             _ => {}
         }

@@ -193,6 +193,34 @@ pub const FAULTS: &[Fault] = &[
             ),
         ],
     },
+    // The passes, with the same sound. The first two go past the transport that counts.
+    Fault {
+        name: "rule-a-tells-no-pass",
+        edits: &[edit(
+            "performance",
+            "fn render_slice",
+            "self.transport.advance",
+            "(*self.transport).advance",
+        )],
+    },
+    Fault {
+        name: "rule-b-tells-no-pass",
+        edits: &[second(
+            "performance",
+            "fn render_slice",
+            "self.transport.advance",
+            "(*self.transport).advance",
+        )],
+    },
+    Fault {
+        name: "song-end-tells-a-pass",
+        edits: &[second(
+            "transport",
+            "fn advance",
+            "wrapped: false",
+            "wrapped: true",
+        )],
+    },
     // Sound.
     Fault {
         name: "gain-ramp-of-255",

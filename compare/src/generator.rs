@@ -2,7 +2,9 @@
 //! towards short songs, loops, crowded frames and crowded swaps. Long ones also have clips of a few frames,
 //! clips that are spoiled, choruses, and blocks up to where something ends; a short one draws for none of it.
 
-use threshreed::raw::{At, Clip, Command, Handle, Ramp};
+use std::mem;
+
+use threshreed::raw::{At, Clip, Command, Handle, Ramp, Session};
 
 use crate::both::{Both, Difference};
 use crate::dice::Dice;
@@ -11,8 +13,8 @@ use crate::ours::{Row, handle_word};
 use crate::reached::{Moment, Reached};
 use crate::runtime::SCRATCH_FRAMES;
 use crate::script::{
-    CAPTURE, Call, Material, NOW, POOL, QUEUE, RATE, SONG, STINGER, at_frame, at_song, kind, plain,
-    state,
+    Answer, CAPTURE, Call, Material, NOW, POOL, QUEUE, RATE, SONG, STINGER, at_frame, at_song,
+    kind, plain, state,
 };
 
 /// How long a session is.
@@ -54,11 +56,13 @@ pub fn play(seed: u64, size: Size, lines: bool) -> Result<Played, Difference> {
         both: Both::open(seed, rate, song, lines)?,
         mood: mood(&mut dice, size),
         dice,
+        cuts: Dice::new(!seed),
         size,
         loads: 1,
         retired: Vec::new(),
         last_frame: 0,
         snapped: false,
+        passes: 0,
         reached: Reached::default(),
     };
     player.run()?;
@@ -71,6 +75,8 @@ pub fn play(seed: u64, size: Size, lines: bool) -> Result<Played, Difference> {
 struct Player {
     both: Both,
     dice: Dice,
+    /// Decides where blocks are cut, and nothing of the session.
+    cuts: Dice,
     mood: Mood,
     size: Size,
     /// The clips loaded so far. Each clip has a seed of its own.
@@ -81,6 +87,8 @@ struct Player {
     last_frame: u64,
     /// A snapshot was taken.
     snapped: bool,
+    /// The passes of all blocks so far.
+    passes: u64,
     reached: Reached,
 }
 
@@ -194,10 +202,60 @@ impl Player {
     fn call(&mut self, call: Call) -> Result<(), Difference> {
         let before = Moment::of(&self.both.ours);
         let answer = self.both.play(&call)?;
+        let pieces = match call {
+            Call::Block(frames) => self.cut(before.session, frames, &answer),
+            _ => Vec::new(),
+        };
+        self.passes += answer.passes();
+        self.check_laps(&call, before.session.laps);
         let after = Moment::of(&self.both.ours);
         self.reached
-            .see(&call, &answer, &before, &after, &self.retired);
+            .see(&call, &answer, &before, &after, &pieces, &self.retired);
         Ok(())
+    }
+
+    /// Makes our block again from where it began, in pieces of any length: the samples and the session are the
+    /// same, and the passes add up. Gives the passes of each piece. A block writes no store, so that the session
+    /// alone goes back.
+    fn cut(&mut self, begun: Session, frames: usize, whole: &Answer) -> Vec<u64> {
+        let ours = &mut self.both.ours;
+        let ended = mem::replace(&mut ours.session, begun);
+        let (mut samples, mut passes) = (Vec::new(), Vec::new());
+        while samples.len() < 2 * frames {
+            let left = frames - samples.len() / 2;
+            let piece = self.cuts.from(0, left as u64);
+            match ours.play(&Call::Block(piece as usize)) {
+                Answer::Made(bits, made) => {
+                    samples.extend(bits);
+                    passes.push(made);
+                }
+                other => panic!("a piece of a block answers {other:?}"),
+            }
+        }
+        let pieces = Answer::Made(samples, passes.iter().sum());
+        assert!(pieces == *whole, "a cut block answers otherwise");
+        assert!(ours.session == ended, "a cut block ends otherwise");
+        passes
+    }
+
+    /// The laps are 0 without a loop, and never more than the passes of all blocks. What a block makes of them the
+    /// walk checks; else a snapshot alone sets them back, if its loop is none or fits.
+    fn check_laps(&self, call: &Call, before: u64) {
+        let ours = &self.both.ours;
+        let Session {
+            looped, laps, song, ..
+        } = ours.session;
+        assert!(looped.set == 1 || laps == 0, "laps without a loop");
+        assert!(laps <= self.passes, "more laps than passes");
+        match call {
+            Call::Block(_) => {}
+            Call::Apply => {
+                let of_snapshot = ours.snapshot.expect("a snapshot was taken").looped;
+                let kept = of_snapshot.set == 1 && of_snapshot.end > ours.clip(song).extent;
+                assert_eq!(laps, if kept { before } else { 0 }, "laps of a snapshot");
+            }
+            _ => assert_eq!(laps, before, "laps of another call"),
+        }
     }
 
     /// A block, as long as the domain allows. Where it allows none, the song is stopped first, and where
@@ -211,8 +269,9 @@ impl Player {
                 return Ok(false);
             }
         }
+        let before = self.passes;
         self.call(Call::Block(walk.frames))?;
-        walk.check(&self.both.ours.session);
+        walk.check(&self.both.ours.session, self.passes - before);
         Ok(true)
     }
 

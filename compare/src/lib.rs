@@ -3,13 +3,13 @@
 //! document 01's calls over it. The proved library is linked as a host links it.
 //!
 //! [`both`] plays a call on [`ours`] and on [`theirs`] and compares the answers and how the two then stand;
-//! [`script`] says what a call and an answer are. [`generator`] makes random sessions inside [`domain`],
-//! [`reached`] counts what they reach, and [`list`] writes the fixed list of the Rust's answers. [`faults`]
-//! are planted into a copy of the Rust to show that the comparison sees them.
+//! [`script`] says what a call and an answer are. [`generator`] makes random sessions inside [`domain`], and
+//! each block of ours in pieces too; [`reached`] counts what they reach, and [`list`] writes the fixed list of
+//! the Rust's answers. [`faults`] are planted into a copy of the Rust to show that the comparison sees them.
 //!
-//! - `cargo test`: document 01's numbers on the Rust, the differences on both, the declick at every rate on
-//!   both, spoiled sessions through the static library, 2,000 random sessions on both, the fixed list, and
-//!   the planted faults.
+//! - `cargo test`: document 01's numbers on the Rust, the differences on both, the declick at every rate and
+//!   the passes of a loop on both, spoiled sessions through the static library, 2,000 random sessions on both,
+//!   the fixed list, and the planted faults.
 //! - `cargo run --release --bin sessions -- 20000 [first seed]`: as many sessions as are wanted.
 //! - `cargo run --release --bin answers`: writes the fixed list.
 //! - `cargo run --release --bin speed`: how fast both are; `compare/instructions` counts instructions instead.

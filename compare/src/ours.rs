@@ -140,8 +140,7 @@ impl Ours {
             &mut out,
         );
         self.session = made.session;
-        let bits = out.iter().map(|sample| sample.to_bits()).collect();
-        answer(made.refusal, Answer::Samples(bits))
+        answer(made.refusal, Answer::made(&out, made.passes))
     }
 
     fn start_capture(&mut self) -> Answer {

@@ -5,11 +5,11 @@ use std::ops::AddAssign;
 
 use threshreed::raw::{Command, Session, Voice};
 
-use crate::ours::Ours;
+use crate::ours::{Ours, Row};
 use crate::script::{Answer, Call, kind, state};
 
 /// The situations, in the order in which they are counted.
-const NAMES: [&str; 31] = [
+const NAMES: [&str; 39] = [
     "16 voices",
     "two due at a block's end",
     "a swap in a swap",
@@ -41,6 +41,14 @@ const NAMES: [&str; 31] = [
     "a song's sample that reads as +0.0",
     "a tail's sample that reads as +0.0",
     "a voice's sample that reads as +0.0",
+    "a block with a pass",
+    "a block with more than 100 passes",
+    "rule a and rule b in one frame",
+    "a pass before the laps are set back in a block",
+    "laps set back by a snapshot",
+    "laps left by a loop that is not set",
+    "a loop's third pass",
+    "a cut block with passes in two of its pieces",
 ];
 
 /// The fixed list must reach the first so many of them.
@@ -49,20 +57,24 @@ const LISTED: usize = 18;
 /// At most so many frames are few.
 const FEW: u64 = 8;
 
-/// A count for each situation, and of the calls, the frames, the samples that were not silent and the senseless loops.
-#[derive(Clone, Copy, Default)]
+/// A count for each situation, and of the calls, the frames, the samples that were not silent, the passes and the
+/// senseless loops.
+#[derive(Clone, Copy)]
 pub struct Reached {
     situations: [u64; NAMES.len()],
     calls: u64,
     frames: u64,
     sounding: u64,
+    passes: u64,
     senseless: u64,
 }
 
 /// Our session at a moment between two calls.
 pub struct Moment {
-    session: Session,
-    /// Whether the first queued record's frame has come.
+    pub session: Session,
+    /// The first queued record.
+    first: Option<Row>,
+    /// Whether its frame has come.
     due: bool,
     /// The frames that each voice has left.
     left: Vec<u64>,
@@ -76,6 +88,7 @@ impl Moment {
         let tail = &session.tail;
         Moment {
             session: *session,
+            first: ours.waiting().next().copied(),
             due: ours.first_due().is_some_and(|at| at <= session.clock),
             left: voices.iter().map(|voice| ours.left(voice)).collect(),
             silenced: [
@@ -133,6 +146,28 @@ impl Moment {
         self.session.looped.set == 1 && self.session.position >= self.session.looped.end
     }
 
+    /// Rule a takes the playhead to the loop's last frame, so that rule b passes in the same frame.
+    fn passes_twice(&self) -> bool {
+        let Session {
+            looped, position, ..
+        } = self.session;
+        self.past_loop() && {
+            let span = looped.end - looped.start;
+            (position - looped.start) % span == span - 1
+        }
+    }
+
+    /// The first queued record is a loop past the song's length.
+    fn unset_loop(&self) -> bool {
+        let past = |row: &Row| row[2] == u64::from(kind::LOOP) && row[4] > self.length();
+        self.first.as_ref().is_some_and(past)
+    }
+
+    /// The song's length.
+    fn length(&self) -> u64 {
+        self.session.clips[self.session.song.slot as usize].extent
+    }
+
     fn tail(&self) -> bool {
         self.session.tail.sounding == 1
     }
@@ -142,14 +177,29 @@ fn is_senseless(range: &Command) -> bool {
     range.frame >= range.end
 }
 
+impl Default for Reached {
+    fn default() -> Reached {
+        Reached {
+            situations: [0; NAMES.len()],
+            calls: 0,
+            frames: 0,
+            sounding: 0,
+            passes: 0,
+            senseless: 0,
+        }
+    }
+}
+
 impl Reached {
-    /// Looks at one call. `retired` holds the starts of the clips retired so far.
+    /// Looks at one call. `pieces` holds the passes of the pieces that a block was cut into, `retired` the starts
+    /// of the clips retired so far.
     pub fn see(
         &mut self,
         call: &Call,
         answer: &Answer,
         before: &Moment,
         after: &Moment,
+        pieces: &[u64],
         retired: &[u64],
     ) {
         let (was, is) = (&before.session, &after.session);
@@ -160,8 +210,11 @@ impl Reached {
         let some_frames = block.is_some_and(|frames| frames > 0);
         let frames = block.unwrap_or(0) as u64;
         let nothing_due = some_frames && !before.due;
-        let undisturbed = some_frames && is.counters.executed == was.counters.executed;
+        let executed = is.counters.executed - was.counters.executed;
+        let undisturbed = some_frames && executed == 0;
+        let passes = answer.passes();
         let together = before.together(frames);
+        let rule_a = nothing_due && was.state == state::PLAYING && before.past_loop();
         let ride = u64::from(was.master.remaining);
         let fade = u64::from(was.tail.weight.remaining);
         let swapped = is.counters.swaps > was.counters.swaps;
@@ -173,7 +226,6 @@ impl Reached {
             Call::Submit(command, _) if command.kind == kind::LOOP => Some(command),
             _ => None,
         };
-        let length = was.clips[was.song.slot as usize].extent;
         let again = match (call, answer) {
             (Call::Load(_), Answer::Loaded(handle)) => {
                 retired.contains(&is.clips[handle.slot as usize].start)
@@ -187,7 +239,7 @@ impl Reached {
             some_frames && is.state == state::PAUSED && after.tail(),
             block.is_some() && before.tail() && !after.tail() && !swapped,
             block.is_some() && after.past_loop(),
-            some_frames && was.state == state::PLAYING && before.past_loop() && !before.due,
+            rule_a,
             transition && is.queued <= was.queued,
             full,
             block.is_some()
@@ -200,7 +252,7 @@ impl Reached {
             *answer == Answer::Refused(15),
             records,
             taken,
-            looped.is_some_and(|range| range.end > length),
+            looped.is_some_and(|range| range.end > before.length()),
             undisturbed && before.comes_round(frames),
             nothing_due
                 && was.state == state::PLAYING
@@ -226,13 +278,22 @@ impl Reached {
             nothing_due && !before.past_loop() && before.silenced[0],
             nothing_due && before.silenced[1],
             nothing_due && before.silenced[2],
+            passes > 0,
+            passes > 100,
+            rule_a && before.passes_twice(),
+            is.laps < passes,
+            *call == Call::Apply && is.laps < was.laps,
+            executed == 1 && before.unset_loop() && was.laps > 0,
+            passes > 0 && was.laps < 3 && is.laps >= 3,
+            pieces.iter().filter(|passes| **passes > 0).count() > 1,
         ];
         for (count, seen) in self.situations.iter_mut().zip(seen) {
             *count += u64::from(seen);
         }
         self.calls += 1;
         self.senseless += u64::from(looped.is_some_and(is_senseless));
-        if let Answer::Samples(bits) = answer {
+        self.passes += passes;
+        if let Answer::Made(bits, _) = answer {
             self.frames += bits.len() as u64 / 2;
             self.sounding += bits.iter().filter(|bits| **bits != 0).count() as u64;
         }
@@ -268,6 +329,7 @@ impl AddAssign for Reached {
         self.calls += more.calls;
         self.frames += more.frames;
         self.sounding += more.sounding;
+        self.passes += more.passes;
         self.senseless += more.senseless;
     }
 }
@@ -277,6 +339,7 @@ impl fmt::Display for Reached {
         writeln!(f, "{:>10}  calls", self.calls)?;
         writeln!(f, "{:>10}  frames", self.frames)?;
         writeln!(f, "{:>10}  samples that were not silent", self.sounding)?;
+        writeln!(f, "{:>10}  passes", self.passes)?;
         writeln!(f, "{:>10}  senseless loops", self.senseless)?;
         for (name, count) in NAMES.into_iter().zip(self.situations) {
             writeln!(f, "{count:>10}  {name}")?;

@@ -98,11 +98,27 @@ pub enum Answer {
     Refused(u32),
     Loaded(Handle),
     Queued(u64),
-    Samples(Vec<u32>),
+    /// A block's samples, and the passes made in it.
+    Made(Vec<u32>, u64),
     Records(Vec<[u64; 5]>),
     Replayed(Report),
     /// Position, state, gain, and the loop as three numbers.
     Snapshot([u64; 6]),
+}
+
+impl Answer {
+    /// Of a block with this output.
+    pub fn made(out: &[f32], passes: u64) -> Answer {
+        Answer::Made(out.iter().map(|sample| sample.to_bits()).collect(), passes)
+    }
+
+    /// The passes of a block; none of another call.
+    pub fn passes(&self) -> u64 {
+        match self {
+            Answer::Made(_, passes) => *passes,
+            _ => 0,
+        }
+    }
 }
 
 /// What can be read of a session between two calls.
@@ -221,7 +237,9 @@ impl fmt::Display for Answer {
             Answer::Refused(number) => write!(f, "{number} 0"),
             Answer::Loaded(clip) => write!(f, "{} {}", clip.slot, clip.serial),
             Answer::Queued(number) => write!(f, "0 {number}"),
-            Answer::Samples(bits) => write!(f, "{}", digest(bits.iter().copied())),
+            Answer::Made(bits, passes) => {
+                write!(f, "{} {passes}", digest(bits.iter().copied()))
+            }
             Answer::Records(records) => {
                 let halves = |word: &u64| [*word as u32, (*word >> 32) as u32];
                 let words = records.iter().flatten().flat_map(halves);

@@ -169,6 +169,11 @@ impl Session {
         self.0.transport().state()
     }
 
+    /// A count that rises by 1 with each pass from the loop's end to its start.
+    pub fn passes(&self) -> u64 {
+        self.0.transport().told()
+    }
+
     /// The value that the master gain rides to.
     pub fn gain_target(&self) -> f32 {
         self.0.master_gain()

@@ -68,8 +68,9 @@ impl Theirs {
             }
             Call::Transition(frame, at) => queued(self.session.transition(*frame, when(*at))),
             Call::Block(frames) => {
+                let before = self.session.passes();
                 let out = self.session.block(*frames);
-                Answer::Samples(out.iter().map(|sample| sample.to_bits()).collect())
+                Answer::made(&out, self.session.passes() - before)
             }
             Call::StartCapture => {
                 self.session.start_capture();

@@ -55,7 +55,7 @@ fn refused(ours: &mut Ours, command: Command) -> u32 {
 /// The left side of our next block.
 fn sounded(ours: &mut Ours, frames: usize) -> Vec<f32> {
     match ours.play(&Call::Block(frames)) {
-        Answer::Samples(bits) => left(&bits.into_iter().map(f32::from_bits).collect::<Vec<_>>()),
+        Answer::Made(bits, _) => left(&bits.into_iter().map(f32::from_bits).collect::<Vec<_>>()),
         other => panic!("{other:?}"),
     }
 }

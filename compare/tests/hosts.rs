@@ -87,6 +87,7 @@ impl Host {
             }
             "block" => {
                 let r = raw::block(s, q, c, p, &mut x.out);
+                assert!(r.refusal == 0 || r.passes == 0);
                 (r.refusal, r.session)
             }
             "start capture" => {
@@ -188,7 +189,7 @@ fn bits(session: &Session) -> Vec<u64> {
     words.extend([session.clock, session.position, session.cursor]);
     let looped = session.looped;
     words.extend([u64::from(looped.set), looped.start, looped.end]);
-    words.push(handle_word(session.song));
+    words.extend([session.laps, handle_word(session.song)]);
     words.extend(ramp_bits(session.master));
     let tail = session.tail;
     words.extend([
@@ -623,7 +624,7 @@ fn cases() {
     refused(&["apply snapshot"], &|x| x.snapshot.looped.set = 2);
 }
 
-/// 'Ramp value and step may be any bits'; so may cursors, the deepest depth, and whatever is not used.
+/// 'Ramp value and step may be any bits'; so may cursors, laps, the deepest depth, and whatever is not used.
 #[test]
 fn any_bits() {
     let mut dice = Dice::new(1);
@@ -644,6 +645,7 @@ fn any_bits() {
             }
             s.cursor = word();
             s.tail.cursor = word();
+            s.laps = word();
             s.deepest = word() as usize;
             s.dropped = word();
             s.clips[FREE_STINGER as usize].extent = word();
