@@ -8,7 +8,7 @@ use Rattle.block.specs.declared.BlockAnswered.{BlockAnswered}
 use Rattle.block.specs.Block.{reported, joined}
 use Rattle.block.proofs.Weigh.{Accepted}
 use Rattle.block.proofs.Cut.{front-accepted, rest-accepted, block-cut, block-cuts}
-use Rattle.promises.specs.Calls.{State, block, withSession, after, outOf, passesOf}
+use Rattle.promises.specs.Calls.{State, block, withSession, after, outOf, reportOf}
 use Rattle.promises.specs.Cut.{InPieces, Cut}
 use Rattle.promises.proofs.Fine.{block-accepts, block-says}
 use Rattle.promises.proofs.Kept.{keeps}
@@ -33,6 +33,6 @@ cut x (out ∷ outs) g e p =
     record {
       accepted = (block-says x out (front-accepted (x .session) (x .queue) (x .capture) (x .pool) out (joined outs) (g .voices) a (p .0)), r .accepted);
       samples = ap (λ (l : List Float). outOf x out ++ l) (r .samples) ∙ sym (ap (λ (z : BlockAnswered × List Float). z .1) both);
-      passes = ap (λ (n : ℕ). passesOf x out + n) (r .passes) ∙ sym (ap (λ (z : BlockAnswered × List Float). reported (z .0 .answer)) both);
+      passes = ap (λ (n : ℕ). reportOf x out + n) (r .passes) ∙ sym (ap (λ (z : BlockAnswered × List Float). reported (z .0 .answer)) both);
       state = r .state ∙ sym (ap (λ (z : BlockAnswered × List Float). withSession x (z .0 .session)) both);
     }

@@ -18,7 +18,7 @@ use Rattle.bank.specs.Sample.{framesOf}
 use Rattle.bank.specs.Recording.{View, viewOf}
 use Rattle.stage.specs.declared.Settings.{Settings}
 use Rattle.stage.specs.declared.Stage.{Stage}
-use Rattle.stage.specs.Machine.{Told, FrameMade, machineOf, outputOf, passesOf as passesIn}
+use Rattle.stage.specs.Machine.{Told, FrameMade, machineOf, outputOf, passesOf}
 use Rattle.session.specs.declared.Session.{Session}
 use Rattle.session.specs.declared.Refusal.{Refusal}
 use Rattle.session.specs.declared.Weighed.{Weighed}
@@ -35,7 +35,7 @@ use Rattle.submission.specs.Order.{waiting, shallow, thenBlock, AlikeButDeepest
 use Rattle.submission.proofs.Later.{either-side}
 use Rattle.submission.proofs.Later as submission
 use Rattle.submission.proofs.Left.{recordFor}
-use Rattle.promises.specs.Calls.{State, submit, block, withSession, refusal, after, outOf, passesOf}
+use Rattle.promises.specs.Calls.{State, submit, block, withSession, refusal, after, outOf, reportOf}
 use Rattle.promises.specs.Kept.{Good}
 use Rattle.promises.specs.Later.{SameButDeepest, SoundSame, SoundOn, Later}
 use Rattle.promises.proofs.Leaves.{heart, submit-leaves}
@@ -177,10 +177,10 @@ module _ (x : State) (y : Submission) (f : ClockFrame) (out : List Float) (g : G
       ∙ ap (λ (r : Ran Stage QueueRecord FrameMade Told). outputOf (r .made)) ran-joined
       ∙ sym (ap (λ (r : BlockAnswered × List Float). r .1) (block-done s (x .queue) (x .capture) (x .pool) out a))
 
-  same-passes : passesOf (after (submit y (At.Frame f)) x) out ≡ passesOf x out
+  same-passes : reportOf (after (submit y (At.Frame f)) x) out ≡ reportOf x out
   same-passes =
       ap (λ (r : BlockAnswered × List Float). reported (r .0 .answer)) (block-done (z .0 .session) (z .1) (z .2) (x .pool) out c)
-      ∙ ap (λ (r : Ran Stage QueueRecord FrameMade Told). passesIn (r .made)) ran-joined
+      ∙ ap (λ (r : Ran Stage QueueRecord FrameMade Told). passesOf (r .made)) ran-joined
       ∙ sym (ap (λ (r : BlockAnswered × List Float). reported (r .0 .answer)) (block-done s (x .queue) (x .capture) (x .pool) out a))
 
   -- the two sides

@@ -111,8 +111,8 @@ abbrev pub outOf : State → List Float → List Float
 outOf x out = blockOf (x .session) (x .queue) (x .capture) (x .pool) out .1
 
 -- the passes that it reports; none where it is refused
-abbrev pub passesOf : State → List Float → ℕ
-passesOf x out = reported (blockOf (x .session) (x .queue) (x .capture) (x .pool) out .0 .answer)
+abbrev pub reportOf : State → List Float → ℕ
+reportOf x out = reported (blockOf (x .session) (x .queue) (x .capture) (x .pool) out .0 .answer)
 
 -- what is heard of a call: of a block its output, else nothing
 abbrev pub heard : Call → State → List Float
@@ -139,9 +139,9 @@ heardAll [] x = []
 heardAll (k ∷ ks) x = heard k x ++ heardAll ks (after k x)
 
 -- what blocks report, one after the other
-abbrev pub passesAll : List (List Float) → State → List ℕ
-passesAll [] x = []
-passesAll (out ∷ outs) x = passesOf x out ∷ passesAll outs (after (block out) x)
+abbrev pub reports : List (List Float) → State → List ℕ
+reports [] x = []
+reports (out ∷ outs) x = reportOf x out ∷ reports outs (after (block out) x)
 
 -- what opening is given
 pub record Opening : Type 0 where

@@ -8,7 +8,7 @@ use lib.Ieee.{Float}
 use Rattle.laws.specs.Queue.{Each}
 use Rattle.bank.specs.Sample.{isOdd}
 use Rattle.block.specs.Block.{joined}
-use Rattle.promises.specs.Calls.{State, block, refusal, after, afterAll, outOf, passesOf, heardAll, passesAll}
+use Rattle.promises.specs.Calls.{State, block, refusal, after, afterAll, outOf, reportOf, heardAll, reports}
 use Rattle.promises.specs.Kept.{Good}
 
 -- each block is accepted, on the state that the one before it left
@@ -25,7 +25,7 @@ sum (n ∷ ns) = n + sum ns
 pub record InPieces (outs : List (List Float)) (x : State) : Type 0 where
   pub accepted : AllAccepted outs x
   pub samples : heardAll (map block outs) x ≡ outOf x (joined outs)
-  pub passes : sum (passesAll outs x) ≡ passesOf x (joined outs)
+  pub passes : sum (reports outs x) ≡ reportOf x (joined outs)
   pub state : afterAll (map block outs) x ≡ after (block (joined outs)) x
 
 -- each a whole number of frames, 0 included

@@ -7,7 +7,7 @@ use lib.Ieee.{Float}
 use Rattle.timeline.specs.declared.Submission.{Submission}
 use Rattle.transport.specs.declared.At.{At}
 use Rattle.submission.specs.Order.{dueAt, waiting, recorded, exchanged, lastExchanged}
-use Rattle.promises.specs.Calls.{State, submit, block, refusal, after, afterAll, heardAll, passesAll, Given}
+use Rattle.promises.specs.Calls.{State, submit, block, refusal, after, afterAll, heardAll, reports, Given}
 use Rattle.promises.specs.Kept.{Good}
 
 -- the same but for the numbers a and b exchanged, in queue and capture, and the capture's last two places
@@ -20,7 +20,7 @@ pub record Exchanged (a b : ℕ) (x y : State) : Type 0 where
 -- later blocks make the same samples of both, report the same passes, and leave them the same but for that
 abbrev pub SoundAlike : ℕ → ℕ → List (List Float) → State → State → Type 0
 SoundAlike a b outs x y =
-    (heardAll (map block outs) x ≡ heardAll (map block outs) y) × (passesAll outs x ≡ passesAll outs y)
+    (heardAll (map block outs) x ≡ heardAll (map block outs) y) × (reports outs x ≡ reports outs y)
     × Exchanged a b (afterAll (map block outs) x) (afterAll (map block outs) y)
 
 -- so it is of any two such states,

@@ -12,7 +12,7 @@ use Rattle.bank.specs.Sample.{framesOf}
 use Rattle.stage.specs.Machine.{Told}
 use Rattle.session.specs.Reading.{loopRangeOf, lapsOf}
 use Rattle.block.specs.Block.{ranOf}
-use Rattle.promises.specs.Calls.{State, block, refusal, after, passesOf, Reached}
+use Rattle.promises.specs.Calls.{State, block, refusal, after, reportOf, Reached}
 
 -- setting or clearing a loop and a swap can make the laps 0
 abbrev pub setsBack : Command → Bool
@@ -36,4 +36,4 @@ pub record Laps : Type 0 where
   pub none : (x : State) → Reached x → loopRangeOf (x .session) ≡ LoopRange.Off → lapsOf (x .session) ≡ 0
   -- and a block that executes nothing of the kind raises them by the passes that it reports; they stop at 2^64 - 1
   pub rise : (x : State) (out : List Float) → Reached x → refusal (block out) x ≡ 0 → Each (λ t. setsBack (t .command .command) ≡ false) (executedIn x out)
-      → lapsOf (after (block out) x .session) ≡ min (lapsOf (x .session) + passesOf x out) (2 ^ 64 - 1)
+      → lapsOf (after (block out) x .session) ≡ min (lapsOf (x .session) + reportOf x out) (2 ^ 64 - 1)

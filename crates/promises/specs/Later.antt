@@ -11,7 +11,7 @@ use Rattle.bank.specs.Sample.{framesOf}
 use Rattle.submission.specs.declared.SubmitAnswer.{SubmitAnswer}
 use Rattle.submission.specs.Submit.{submitOf}
 use Rattle.submission.specs.Order.{waiting, recorded, shallow}
-use Rattle.promises.specs.Calls.{State, submit, block, refusal, after, afterAll, outOf, passesOf, heardAll, passesAll, Given}
+use Rattle.promises.specs.Calls.{State, submit, block, refusal, after, afterAll, outOf, reportOf, heardAll, reports, Given}
 use Rattle.promises.specs.Kept.{Good}
 
 -- the same but for the deepest depth; of the stores the records count, not the words behind them
@@ -28,7 +28,7 @@ answerOf y at x = submitOf (x .session) (x .queue) (x .capture) y at .0 .answer
 -- blocks make the same samples of both, report the same passes, and leave them the same but for that
 abbrev pub SoundSame : List (List Float) → State → State → Type 0
 SoundSame outs x y =
-    (heardAll (map block outs) x ≡ heardAll (map block outs) y) × (passesAll outs x ≡ passesAll outs y)
+    (heardAll (map block outs) x ≡ heardAll (map block outs) y) × (reports outs x ≡ reports outs y)
     × SameButDeepest (afterAll (map block outs) x) (afterAll (map block outs) y)
 
 -- of any two such states
@@ -41,7 +41,7 @@ pub record EitherSide (y : Submission) (f : ClockFrame) (out : List Float) (x : 
   pub accepted : refusal (block out) (after (submit y (At.Frame f)) x) ≡ 0
   -- with the same samples and passes,
   pub samples : outOf (after (submit y (At.Frame f)) x) out ≡ outOf x out
-  pub passes : passesOf (after (submit y (At.Frame f)) x) out ≡ passesOf x out
+  pub passes : reportOf (after (submit y (At.Frame f)) x) out ≡ reportOf x out
   -- the submission is given the same number,
   pub answer : answerOf y (At.Frame f) x ≡ answerOf y (At.Frame f) (after (block out) x)
   -- and the states are the same but for the deepest depth, now and after any later blocks

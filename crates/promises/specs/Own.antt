@@ -20,7 +20,7 @@ use Rattle.clips.specs.Answer.{saysLoad}
 use Rattle.clips.specs.Open.{openOf}
 use Rattle.clips.specs.Load.{loadOf}
 use Rattle.submission.specs.Order.{waiting}
-use Rattle.promises.specs.Calls.{State, Call, load, block, refusal, after, afterAll, outOf, passesOf, Opening, opened, state}
+use Rattle.promises.specs.Calls.{State, Call, load, block, refusal, after, afterAll, outOf, reportOf, Opening, opened, state}
 use Rattle.promises.specs.Kept.{Good}
 use Rattle.promises.specs.Retire.{Live}
 use Rattle.promises.specs.Stale.{AllGiven}
@@ -102,4 +102,4 @@ abbrev pub NothingElse : Type 0
 NothingElse =
     (x : State) (pool out : List Float) → SameRead x pool (framesOf out)
     → let y : State = state (x .session) (x .queue) (x .capture) pool in
-    (outOf y out ≡ outOf x out) × (passesOf y out ≡ passesOf x out) × (refusal (block out) y ≡ refusal (block out) x) × (after (block out) y .session ≡ after (block out) x .session)
+    (outOf y out ≡ outOf x out) × (reportOf y out ≡ reportOf x out) × (refusal (block out) y ≡ refusal (block out) x) × (after (block out) y .session ≡ after (block out) x .session)
