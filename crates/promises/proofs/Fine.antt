@@ -10,7 +10,6 @@ use Rattle.transport.specs.declared.At.{At}
 use Rattle.session.specs.declared.Refusal.{Refusal}
 use Rattle.session.specs.declared.Weighed.{Weighed}
 use Rattle.session.specs.Refusal.{numberOf, unless}
-use Rattle.session.specs.Answer.{says}
 use Rattle.session.proofs.Refuse.{number-some, refused-or-done}
 use Rattle.block.specs.declared.BlockAnswered.{BlockAnswered}
 use Rattle.block.specs.Block.{saysBlock, blockOf}

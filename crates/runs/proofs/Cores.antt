@@ -6,19 +6,17 @@ use Prim.Native.Nat.{ℕ, zero, suc, _+_, _*_, _/_, _%_, _≤_}
 use native.Mathlib.Nat.{add-zero}
 use native.Mathlib.Numerals.{add-one}
 use native.Mathlib.Omega.{arith}
-use lib.ListN.{length, getD, set}
-use lib.Ieee.{Float, nan}
+use lib.ListN.{length}
+use lib.Ieee.{Float}
 use Rattle.transport.specs.Transport.{transportFits}
 use Rattle.transport.proofs.Fits.{step-fits}
 use Rattle.transport.proofs.Passes.{few}
 use Rattle.bank.specs.declared.Clip.{Clip}
 use Rattle.bank.specs.Recording.{Recording, recordingOf}
-use Rattle.oneshot.specs.Pair.{pair}
 use Rattle.stage.specs.declared.Settings.{Settings}
 use Rattle.stage.specs.Playhead.{movedOf}
-use Rattle.sweeps.specs.Over.{over}
 use Rattle.runs.specs.declared.Core.{Core}
-use Rattle.runs.specs.Core.{coreOn, corePasses, coreMade, coreAfter, passesIn, coreAdds, CoreReady}
+use Rattle.runs.specs.Core.{coreOn, corePasses, coreAfter, passesIn, coreAdds, CoreReady}
 
 module _ (x : Settings) (s t : Recording) where
   -- one frame more
