@@ -59,7 +59,7 @@ song = record { slot = 0; serial = 1 }
 abbrev opened : ℕ → Session
 opened n =
     record {
-      settings = record { rate = 48000; queue = 2; capture = 0; pool = 2 };
+      settings = record { rate = 48000; mode = 0; queue = 2; capture = 0; pool = 2 };
       bank = loadedIn emptyBank 0 (record { serial = 1; kind = Kind.Song (record { 0 = 2 }); start = 0; frames = 2; rate = 48000 });
       stage =
           record {

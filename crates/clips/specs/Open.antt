@@ -73,7 +73,7 @@ sessionOf x b h = record { settings = x; bank = b; stage = stageAt h; queued = 0
 
 -- what a refused opening gives beside its number: no session, which every call refuses
 abbrev pub noSession : Session
-noSession = sessionOf (record { rate = 0; queue = 0; capture = 0; pool = 0 }) emptyBank (record { slot = 0; serial = 0 })
+noSession = sessionOf (record { rate = 0; mode = 0; queue = 0; capture = 0; pool = 0 }) emptyBank (record { slot = 0; serial = 0 })
 
 -- an opening that is not refused: the song in slot 0, its samples at the pool's start, every other sample as it was
 abbrev pub openDone : Settings → List Float → List Float → ℕ → SongFrame → LoadAnswered × List Float

@@ -155,6 +155,7 @@ fn no_session() -> Session
 {
     let settings = Settings {
         rate: 0,
+        mode: 0,
         queue: 0,
         capture: 0,
         pool: 0,

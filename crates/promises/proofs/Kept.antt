@@ -5,6 +5,7 @@ use mathlib.Core.List.{List}
 use Prim.Native.Nat.{ℕ}
 use lib.Ieee.{Float}
 use Rattle.counts.specs.declared.Handle.{Handle}
+use Rattle.bank.specs.declared.Kind.{Kind}
 use Rattle.bank.specs.declared.Bank.{Bank}
 use Rattle.bank.specs.Sample.{framesOf, isPool}
 use Rattle.stage.specs.declared.Settings.{Settings}
@@ -22,6 +23,7 @@ use Rattle.block.proofs.Kept.{block-came, call-keeps}
 use Rattle.clips.specs.declared.LoadAnswered.{LoadAnswered}
 use Rattle.clips.specs.Answer.{saysLoad}
 use Rattle.clips.specs.Open.{weighOpen, openOf}
+use Rattle.clips.specs.Load.{loadOf}
 use Rattle.clips.specs.Retire.{retireOf}
 use Rattle.clips.proofs.Opened.{open-formed, open-pooled, open-typed}
 use Rattle.clips.proofs.Kept.{load-kept, load-typed, load-pooled, retire-kept, retire-typed}
@@ -42,16 +44,23 @@ good x formed pooled t =
 pub types : (x : State) → Good x → Typed (x .session)
 types x g = record { bank = record { bits = g .slots; serials = g .serials; places = g .clips }; voices = g .voices }
 
+abbrev heart-settings : Settings × Bank × Stage → Settings
+heart-settings r = r .0
+
 -- a call that leaves settings, bank, stage and pool leaves the types and the pool's length
 left : (k : Call) (x : State) → heart (after k x .session) ≡ heart (x .session) → after k x .pool ≡ x .pool
     → wellFormed (after k x .session) (after k x .queue) (after k x .capture) ≡ true → Good x → Good (after k x)
 left k x e pool formed p =
-    let settings : after k x .session .settings ≡ x .session .settings = ap (λ (r : Settings × Bank × Stage). r .0) e in
+    let settings : after k x .session .settings ≡ x .session .settings = ap heart-settings e in
     let bank : after k x .session .bank ≡ x .session .bank = ap (λ (r : Settings × Bank × Stage). r .1) e in
     let stage : after k x .session .stage ≡ x .session .stage = ap (λ (r : Settings × Bank × Stage). r .2) e in
     good (after k x) formed (rw (settings, pool) (p .pooled)) (record { bank = rw bank (types x p .bank); voices = rw stage (p .voices) })
 
--- retiring and applying leave the settings
+-- loading, retiring and applying leave the settings
+load-settings : (s : Session) (q c : List ℕ) (pool samples : List Float) (kind : Kind) (rate : ℕ) → loadOf s q c pool samples kind rate .0 .session .settings ≡ s .settings
+unfolding loadOf
+load-settings s q c pool samples kind rate = unless-both {A = LoadAnswered × List Float} _ _ _ (λ z. z .0 .session .settings ≡ s .settings) (λ k. refl) (λ fine. refl)
+
 retire-settings : (s : Session) (q c : List ℕ) (h : Handle) → retireOf s q c h .session .settings ≡ s .settings
 unfolding retireOf
 retire-settings s q c h = unless-both {A = Answered} _ _ _ (λ z. z .session .settings ≡ s .settings) (λ k. refl) (λ fine. refl)
@@ -71,6 +80,20 @@ module _ (s : Session) (q c : List ℕ) (pool out : List Float) where
   block-typed formed t =
       unless-both {A = BlockAnswered × List Float} _ _ _ (λ z. Typed (z .0 .session)) (λ k. t)
       (λ fine. record { bank = t .bank; voices = block-came s q c pool formed (t .voices) (framesOf out) (accepted s q c pool out fine .clock) .stands .places })
+
+-- so every call does
+pub settings-stay : (k : Call) (x : State) → after k x .session .settings ≡ x .session .settings
+settings-stay (load samples kind rate) x = load-settings (x .session) (x .queue) (x .capture) (x .pool) samples kind rate
+settings-stay (retire h) x = retire-settings (x .session) (x .queue) (x .capture) h
+settings-stay (submit y at) x = ap heart-settings (submit-leaves (x .session) (x .queue) (x .capture) y at)
+settings-stay (transition f at) x = ap heart-settings (transition-leaves (x .session) (x .queue) (x .capture) f at)
+settings-stay (block out) x = block-settings (x .session) (x .queue) (x .capture) (x .pool) out
+settings-stay startCapture x = ap heart-settings (start-leaves (x .session) (x .queue) (x .capture))
+settings-stay (stopCapture list) x = ap heart-settings (stop-leaves (x .session) (x .queue) (x .capture) list)
+settings-stay (replay list) x = ap heart-settings (replay-leaves (x .session) (x .queue) (x .capture) list)
+settings-stay snapshot x = ap (λ (s : Session). s .settings) (snapshot-leaves (x .session) (x .queue) (x .capture))
+settings-stay (apply y) x = apply-settings (x .session) (x .queue) (x .capture) y
+settings-stay metrics x = ap (λ (s : Session). s .settings) (metrics-leave (x .session) (x .queue) (x .capture))
 
 -- every call keeps a state good
 pub keeps : Keeps

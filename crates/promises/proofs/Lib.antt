@@ -5,6 +5,8 @@ pub mod Tail
 pub mod Laps
 pub mod Kept
 pub mod Declick
+mod Magnitude
+pub mod Modes
 pub mod Never
 pub mod Exchanged
 mod Fine

@@ -1,21 +1,20 @@
 -- After a retirement a load of at most its frames is refused with neither 8 nor 10. Assumes nothing.
 use mathlib.Core.Path.{_≡_, refl, sym, ap, _∙_, subst}
 use mathlib.Core.Logic.{_≢_}
-use mathlib.Core.Bool.{Bool, true, false, _&&_, _||_}
+use mathlib.Core.Bool.{Bool, true, false, _||_}
 use mathlib.Core.List.{List}
 use Prim.Native.Nat.{ℕ, _-_, _^_, _≤_, _<_}
 use native.Mathlib.Omega.{arith}
 use borrow.Author.Tests.{ne-eqb}
-use lib.Dec.{eqb, leb, lit≤}
+use lib.Dec.{eqb, lit≤}
 use lib.Ieee.{Float}
 use Rattle.counts.specs.declared.Handle.{Handle}
-use Rattle.counts.specs.Below.{within}
-use Rattle.counts.proofs.Truth.{never, and-r}
+use Rattle.counts.proofs.Truth.{never}
 use Rattle.counts.proofs.Below.{within-high}
 use Rattle.bank.specs.Sample.{framesOf}
 use Rattle.bank.specs.Slots.{clipOf, live, retiredFrom}
 use Rattle.bank.specs.Room.{nowhere}
-use Rattle.bank.specs.WellFormed.{rateOk, bankOk}
+use Rattle.bank.specs.WellFormed.{bankOk}
 use Rattle.bank.proofs.Clauses.{live-has, bank-clip}
 use Rattle.bank.proofs.Kept.{retired-slot, room-again}
 use Rattle.stage.specs.declared.Settings.{Settings}
@@ -23,9 +22,10 @@ use Rattle.session.specs.declared.Session.{Session}
 use Rattle.session.specs.declared.Weighed.{Weighed}
 use Rattle.session.specs.declared.Answered.{Answered}
 use Rattle.session.specs.Session.{withBank}
-use Rattle.session.specs.WellFormed.{settingsOk, wellFormed}
+use Rattle.session.specs.WellFormed.{wellFormed}
 use Rattle.session.specs.Answer.{says}
 use Rattle.session.proofs.Parts.{parts}
+use Rattle.session.proofs.Ranged.{ranged}
 use Rattle.session.proofs.Refuse.{numbered, other, passes, refused-or-done}
 use Rattle.clips.specs.declared.LoadAnswered.{LoadAnswered}
 use Rattle.clips.specs.Answer.{saysLoad}
@@ -64,11 +64,9 @@ module _ (x : State) (c : Clipped) where
 
 -- no start in a pool of its range is nowhere
 somewhere : (s : Session) (q c : List ℕ) → wellFormed s q c ≡ true → (n : ℕ) → n < s .settings .pool → n ≡ nowhere → ⊥
-unfolding settingsOk
 somewhere s q c formed n l e =
     let x : Settings = s .settings in
-    let pool : x .pool ≤ 33554432 = within-high 1 33554432 (x .pool)
-    (and-r (rateOk (x .rate) && within 1 4096 (x .queue) && leb (x .capture) 4096) (within 1 33554432 (x .pool)) (parts s q c formed .settings)) in
+    let pool : x .pool ≤ 33554432 = within-high 1 33554432 (x .pool) (ranged x (parts s q c formed .settings) .pool) in
     let top : 33554432 ≤ nowhere = lit≤ tt in
     omega (arith, top)
 

@@ -38,8 +38,10 @@ use Rattle.session.specs.declared.Session.{Session}
 use Rattle.block.specs.declared.BlockAnswered.{BlockAnswered}
 use Rattle.block.specs.Block.{ranOf}
 use Rattle.block.proofs.Weigh.{block-done}
+use Rattle.promises.specs.Modes.{magnitude}
 use Rattle.promises.specs.Signs.{minusZero, NeverMinusZero}
 use Rattle.promises.proofs.Fine.{block-accepts}
+use Rattle.promises.proofs.Magnitude.{magnitude-round, no-finer, scaled}
 
 -- 0, of either sign
 abbrev isZero : Float → Bool
@@ -58,23 +60,15 @@ minus-zero (fin false m e) z = refl
 
 -- ---- rounding
 
+magnitude-zero : (x : Float) → isZero (magnitude x) ≡ isZero x
+magnitude-zero nan = refl
+magnitude-zero (inf s) = refl
+magnitude-zero (fin s zero e) = refl
+magnitude-zero (fin s (suc m) e) = refl
+
 -- the sign that rounding is given
-odd-zero : (d : ℕ) (s : Bool) (q k l : ℕ) → isZero (odd d s q k l) ≡ isZero (odd d false q k l)
-unfolding odd
-odd-zero d s zero k l = refl
-odd-zero d s (suc q) k l = refl
-
-units-zero : (f : Format) (s : Bool) (q k : ℕ) → isZero (units f s q k) ≡ isZero (units f false q k)
-unfolding units
-units-zero f s q k = go (ltb (q * 2 ^ k) _) _ _ (odd-zero _ s q k (low f))
-  where
-    go : (b : Bool) (x y : Float) → isZero x ≡ isZero y → isZero (cond b x (inf s)) ≡ isZero (cond b y (inf false))
-    go true x y e = e
-    go false x y e = refl
-
 round-zero : (f : Format) (s : Bool) (num den : ℕ) → isZero (round f s num den) ≡ isZero (round f false num den)
-unfolding round
-round-zero f s num den = units-zero f s _ _
+round-zero f s num den = sym (magnitude-zero (round f s num den)) ∙ ap isZero (magnitude-round f s num den)
 
 units-plus : (f : Format) (q k : ℕ) → minusZero (units f false q k) ≡ false
 unfolding units odd
@@ -157,37 +151,13 @@ sum-signs true false a b c l m n some = go (ltb a b) (ltb b a) refl
     go false true e = round-some true (a - b) c l (reaches (a - b) c (omega (arith, ltb-true b a e)) (minus-multiple a b c m n))
     go false false e = round-plus binary32 (a - b) c
 
-back : (k n : ℕ) → suc k ≤ n → n - suc k + suc k ≡ n
-back k n l = omega arith
-
-scaled : (m n k : ℕ) → suc k ≤ n → m * 1 * 2 ^ n ≡ m * 2 ^ (n - suc k) * 2 ^ suc k
-scaled m n k l =
-    ap (λ (z : ℕ). z * 2 ^ n) (mul-one m) ∙ ap (λ (z : ℕ). m * 2 ^ z) (sym (back k n l)) ∙ ap (λ (z : ℕ). m * z) (pow-add 2 (n - suc k) (suc k))
-    ∙ sym (mul-assoc m (2 ^ (n - suc k)) (2 ^ suc k))
-
-clash : (a b : ℕ) → a ≤ b → b < a → ⊥
-clash a b l g = omega arith
-
 -- a finite binary32 is so many of the smallest values
 whole : (s : Bool) (m : ℕ) (e : ℤ) → T (fits binary32 (fin s m e)) → Multiple (m * up e) (down e)
 unfolding fits
 whole s zero e t = record { times = 0; is = rw (zero-mul (up e), zero-mul (2 ^ low binary32)) (sym (zero-mul (down e))) }
 whole s (suc m) (pos k) t = record { times = suc m * 2 ^ k * 2 ^ low binary32; is = sym (mul-one (suc m * 2 ^ k * 2 ^ low binary32)) }
 whole s (suc m) (negsuc k) t =
-    let odd : Bool = eqb (suc m % 2) 1 in
-    let small-digits : Bool = ltb (suc m) (2 ^ 24) in
-    let low-enough : Bool = leb (2 ^ suc k) (2 ^ low binary32) in
-    let below : Bool = ltb (suc m * 1) (2 ^ 128 * 2 ^ suc k) in
-    let f : leb (2 ^ suc k) (2 ^ low binary32) ≡ true = is-T low-enough (and-r (odd && small-digits) low-enough (and-l (odd && small-digits && low-enough) below t)) in
-    let l : suc k ≤ low binary32 = small (leb-true (2 ^ suc k) (2 ^ low binary32) f) in
-    record { times = suc m * 2 ^ (low binary32 - suc k); is = scaled (suc m) (low binary32) k l }
-  where
-    small : 2 ^ suc k ≤ 2 ^ low binary32 → suc k ≤ low binary32
-    small h = go (lt-or-le (low binary32) (suc k))
-      where
-        go : (low binary32 < suc k) ⊎ (suc k ≤ low binary32) → suc k ≤ low binary32
-        go (inl x) = absurd (clash (2 ^ suc k) (2 ^ low binary32) h (pow-lt x))
-        go (inr x) = x
+    record { times = suc m * 2 ^ (low binary32 - suc k); is = scaled (suc m) (low binary32) k (no-finer s m k t) }
 
 -- the same over a common denominator
 common : (a c d : ℕ) → Multiple a c → Multiple (a * d) (c * d)

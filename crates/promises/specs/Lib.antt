@@ -3,6 +3,7 @@ pub mod Numbers
 pub mod Declick
 pub mod Tail
 pub mod Laps
+pub mod Modes
 pub mod Kept
 pub mod Exchanged
 pub mod Refused

@@ -80,7 +80,7 @@ abbrev pub start : State
 start =
     opened
     (record {
-      settings = record { rate = 48000; queue = 2; capture = 0; pool = 2 };
+      settings = record { rate = 48000; mode = 0; queue = 2; capture = 0; pool = 2 };
       queue = replicate 10 0;
       capture = [];
       pool = replicate 4 zero32;

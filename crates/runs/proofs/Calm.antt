@@ -20,6 +20,7 @@ use Rattle.oneshot.specs.declared.Pair.{Pair}
 use Rattle.oneshot.specs.Pair.{pair}
 use Rattle.stage.specs.declared.Settings.{Settings}
 use Rattle.stage.specs.declared.Tail.{Tail}
+use Rattle.stage.specs.Mode.{isHouse}
 use Rattle.sweeps.specs.declared.Part.{Part}
 use Rattle.sweeps.specs.Over.{over}
 use Rattle.sweeps.specs.Adds.{shareOf, ticksOf, gainAt}
@@ -117,7 +118,7 @@ module _ (pool : List Float) (x : Settings) (song clip : Clip) (c : Core) (n : �
 
   -- song × g, plus the tail's share, at place k
   abbrev leads : ℕ → Float
-  leads k = tailAdds t (c .fade .tail) k (mul binary32 (songShare s (c .playhead .transport) k) (gainAt (c .master) (k / 2)))
+  leads k = tailAdds t x (gainAt (c .master) (k / 2)) (c .fade .tail) k (mul binary32 (songShare s (c .playhead .transport) k) (gainAt (c .master) (k / 2)))
 
   -- in the middle of it
   calm-on : (j : ℕ) → j < n → coreOn x s t (coreBy (song .frames) (clip .frames) j c) ≡ coreBy (song .frames) (clip .frames) (j + 1) c
@@ -131,7 +132,7 @@ module _ (pool : List Float) (x : Settings) (song clip : Clip) (c : Core) (n : �
       rw (
         moved-frame x (c .playhead) (song .frames) (extentOf (song .kind)) n j (h .song) lt,
         played-frame s (clip-ends pool song) _ (c .playhead .transport) j,
-        tail-adds t x (clip-ends pool clip) (c .fade .tail) (gainAt (c .master) j) _ j,
+        tail-adds t x (gainAt (c .master) j) (clip-ends pool clip) (c .fade .tail) _ j,
         frame-left j,
         frame-right j,
       ) refl
@@ -159,14 +160,14 @@ module _ (pool : List Float) (x : Settings) (song clip : Clip) (c : Core) (n : �
 
   -- with the parts of the pool
   over-adds : (u : Tail) (p : Part) (a y : Float) (k : ℕ) → Fading (clip .frames) n u → k < n * 2 → shareOf pool p k ≡ a
-      → overAdds pool p clip (c .master) u k y ≡ add binary32 (tailAdds t u k (mul binary32 a (gainAt (c .master) (k / 2)))) y
+      → overAdds (isHouse x) pool p clip (c .master) u k y ≡ add binary32 (tailAdds t x (gainAt (c .master) (k / 2)) u k (mul binary32 a (gainAt (c .master) (k / 2)))) y
   over-adds Tail.None p a y k f lt e = ap (λ b. add binary32 y (mul binary32 b (gainAt (c .master) (k / 2)))) e ∙ add-swap binary32 y (mul binary32 a (gainAt (c .master) (k / 2)))
   over-adds (Tail.Sounding i d w) p a y k f lt e =
       rw (e, part-share pool clip (d .0) n k (f .1) lt) refl
 
-  pub calm-over : (os : List Float) → over (overAdds pool (songPart song (c .playhead .transport)) clip (c .master) (c .fade .tail)) 0 (n * 2) os ≡ over (coreAdds x s t c) 0 (n * 2) os
+  pub calm-over : (os : List Float) → over (overAdds (isHouse x) pool (songPart song (c .playhead .transport)) clip (c .master) (c .fade .tail)) 0 (n * 2) os ≡ over (coreAdds x s t c) 0 (n * 2) os
   calm-over os =
-      over-same (overAdds pool (songPart song (c .playhead .transport)) clip (c .master) (c .fade .tail)) (coreAdds x s t c) 0 os (n * 2)
+      over-same (overAdds (isHouse x) pool (songPart song (c .playhead .transport)) clip (c .master) (c .fade .tail)) (coreAdds x s t c) 0 os (n * 2)
       (λ k a b y.
       over-adds (c .fade .tail) (songPart song (c .playhead .transport)) _ y k (h .tail) (omega arith) (song-share pool song (c .playhead .transport) n k (h .song .inside) (omega arith)) ∙ sym (calm-adds k y (omega arith)))
 
@@ -179,7 +180,7 @@ module _ (pool : List Float) (x : Settings) (song clip : Clip) (c : Core) where
   lead-after (suc n) h = sym (calm-after pool x song clip c (suc n) (h (omega arith)) (suc n) (omega arith))
 
   pub lead-over : (n : ℕ) → (0 < n → Calm song clip n c) → (os : List Float)
-      → over (overAdds pool (songPart song (c .playhead .transport)) clip (c .master) (c .fade .tail)) 0 (n * 2) os ≡ over (coreAdds x (recordingOf pool song) (recordingOf pool clip) c) 0 (n * 2) os
+      → over (overAdds (isHouse x) pool (songPart song (c .playhead .transport)) clip (c .master) (c .fade .tail)) 0 (n * 2) os ≡ over (coreAdds x (recordingOf pool song) (recordingOf pool clip) c) 0 (n * 2) os
   unfolding over
   lead-over zero h os = refl
   lead-over (suc n) h os = calm-over pool x song clip c (suc n) (h (omega arith)) os

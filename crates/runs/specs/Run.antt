@@ -1,7 +1,7 @@
 -- A run of a core: frames in which nothing is decided anew. Where it leads, and what it adds at each place. Definitions only.
 use Prim.Native.Nat.{ℕ, _+_, _*_, _≤_, _<_, _^_}
 use mathlib.Core.Path.{_≡_}
-use mathlib.Core.Bool.{true, false, cond}
+use mathlib.Core.Bool.{Bool, true, false, cond}
 use mathlib.Core.List.{List}
 use lib.Dec.{ltb}
 use lib.ListN.{length}
@@ -85,9 +85,9 @@ abbrev pub songPart : Clip → Transport → Part
 songPart x t = cond (isPlaying (t .state)) (partOf x (t .cursor .0)) silent
 
 -- song and tail over the sums, where the tail's clip is x
-abbrev pub overAdds : List Float → Part → Clip → Ramp → Tail → ℕ → Float → Float
-overAdds pool s x g Tail.None = adds pool s g
-overAdds pool s x g (Tail.Sounding h c w) = bothAdds pool s (partOf x (c .0)) g w
+abbrev pub overAdds : Bool → List Float → Part → Clip → Ramp → Tail → ℕ → Float → Float
+overAdds house pool s x g Tail.None = adds pool s g
+overAdds house pool s x g (Tail.Sounding h c w) = bothAdds house pool s (partOf x (c .0)) g w
 
 pub record OverReady (pool : List Float) (s : Part) (x : Clip) (n out : ℕ) (t : Tail) : Type 0 where
   pub room : n * 2 ≤ out

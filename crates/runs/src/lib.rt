@@ -6,6 +6,7 @@ ghost use mathlib.Core.List.{_++_};
 ghost use lib.ListN.{length, drop};
 ghost use mathlib.Core.Bool.{true};
 ghost use Rattle.transport.specs.Transport.{isPlaying};
+ghost use Rattle.stage.specs.Mode.{isHouse};
 ghost use Rattle.stage.specs.Machine.{outputOf, passesOf};
 ghost use Rattle.bank.specs.Recording.{recordingOf, viewOf};
 ghost use Rattle.oneshot.specs.Mix.{sounding};
@@ -308,6 +309,7 @@ struct Over {
 
 /// So many frames of song and tail, over the sums that stand there. The clip is the tail's.
 fn over_sums(
+    house: bool,
     pool: &[f32],
     song: Part,
     clip: Clip,
@@ -317,7 +319,7 @@ fn over_sums(
     n: usize,
 ) -> Over
     requires { ⌜ OverReady (now pool) song clip n (length (now out)) (fade .tail) ⌝ }
-    ensures { λ r. ⌜ (r .master ≡ ticksOf n master) × (r .fade .tail ≡ tailBy (clip .frames) n (fade .tail)) × (now (out .exit) ≡ over (overAdds (now (pool .entry)) song clip master (fade .tail)) 0 (n * 2) (now (out .entry))) ⌝ }
+    ensures { λ r. ⌜ (r .master ≡ ticksOf n master) × (r .fade .tail ≡ tailBy (clip .frames) n (fade .tail)) × (now (out .exit) ≡ over (overAdds house (now (pool .entry)) song clip master (fade .tail)) 0 (n * 2) (now (out .entry))) ⌝ }
 {
     let tail = fade.tail;
     match tail {
@@ -330,7 +332,7 @@ fn over_sums(
         }
         Tail::Sounding(h, cursor, weight) => {
             let part = part_of(clip, cursor);
-            let gains = sweeps::add_both(pool, song, part, out, n, master, weight);
+            let gains = sweeps::add_both(house, pool, song, part, out, n, master, weight);
             let g = gains.master;
             let w = gains.weight;
             let on = cursor_by(clip.frames, cursor, n);
@@ -456,9 +458,17 @@ impl Core {
     }
 
     /// So many frames at once, in which nothing is decided anew, over the sums that stand there. No frames: nothing.
-    fn run(self, pool: &[f32], song: Clip, clip: Clip, out: &mut [f32], n: usize) -> Core
+    fn run(
+        self,
+        settings: Settings,
+        pool: &[f32],
+        song: Clip,
+        clip: Clip,
+        out: &mut [f32],
+        n: usize,
+    ) -> Core
         requires { ⌜ CoreReady (length (now pool)) song clip self × (0 < n → Calm song clip n self) × (n * 2 ≤ length (now out)) ⌝ }
-        ensures { λ r. ⌜ (r ≡ coreBy (song .frames) (clip .frames) n self) × (now (out .exit) ≡ over (overAdds (now (pool .entry)) (songPart song (self .playhead .transport)) clip (self .master) (self .fade .tail)) 0 (n * 2) (now (out .entry))) ⌝ }
+        ensures { λ r. ⌜ (r ≡ coreBy (song .frames) (clip .frames) n self) × (now (out .exit) ≡ over (overAdds (isHouse settings) (now (pool .entry)) (songPart song (self .playhead .transport)) clip (self .master) (self .fade .tail)) 0 (n * 2) (now (out .entry))) ⌝ }
     {
         if n == 0 {
             return self;
@@ -469,7 +479,7 @@ impl Core {
         let part = song_part(song, t);
         let master = self.master;
         let fade = self.fade;
-        let made = over_sums(pool, part, clip, master, fade, out, n);
+        let made = over_sums(settings.is_house(), pool, part, clip, master, fade, out, n);
         let next_master = made.master;
         let next_fade = made.fade;
         let next = transport_by(t, song.frames, n);
@@ -528,7 +538,7 @@ impl Core {
         ensures { λ r. ⌜ (0 < r .frames) × (r .frames ≤ most) × (r .core ≡ coreAfter settings (recordingOf (now (pool .entry)) song) (recordingOf (now (pool .entry)) clip) (r .frames) self) × (now (out .exit) ≡ over (coreAdds settings (recordingOf (now (pool .entry)) song) (recordingOf (now (pool .entry)) clip) self) 0 (r .frames * 2) (now (out .entry))) × (r .passes ≡ passesIn settings (recordingOf (now (pool .entry)) song) (recordingOf (now (pool .entry)) clip) (r .frames) self) ⌝ }
     {
         let ahead = self.ahead(song, clip, most);
-        let core = self.run(pool, song, clip, &mut out[..], ahead);
+        let core = self.run(settings, pool, song, clip, &mut out[..], ahead);
         if ahead == most {
             return Gone {
                 core: core,

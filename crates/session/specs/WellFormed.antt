@@ -20,6 +20,7 @@ use Rattle.oneshot.specs.declared.Voice.{Voice}
 use Rattle.oneshot.specs.Mix.{voiceAt}
 use Rattle.stage.specs.declared.Settings.{Settings}
 use Rattle.stage.specs.declared.Tail.{Tail}
+use Rattle.stage.specs.Mode.{modeOk}
 use Rattle.stage.specs.Sound.{masterFrames}
 use Rattle.session.specs.declared.Session.{Session}
 use Rattle.session.specs.declared.Refusal.{Refusal}
@@ -29,9 +30,9 @@ use Rattle.session.specs.Session.{extentNow, capturedNow}
 
 -- ---- the numbers above are in range
 
--- a rate, a queue capacity, a capture capacity and a pool
+-- a rate, a queue capacity, a capture capacity, a pool and a mode
 unfoldable pub settingsOk : Settings → Bool
-settingsOk x = rateOk (x .rate) && within 1 4096 (x .queue) && leb (x .capture) 4096 && within 1 33554432 (x .pool)
+settingsOk x = rateOk (x .rate) && within 1 4096 (x .queue) && leb (x .capture) 4096 && within 1 33554432 (x .pool) && modeOk (x .mode)
 
 -- the clock goes to 2^62, and no count passes its store
 unfoldable pub numbersOk : Session → Bool

@@ -29,6 +29,7 @@ use oneshot::Voice;
 use oneshot::Voices;
 use ramp::Ramp;
 use stage::Counters;
+use stage::HOUSE;
 use stage::Playhead;
 use stage::Settings;
 use stage::Stage;
@@ -260,7 +261,7 @@ pub fn turned_away(k: Refusal, s: Session) -> Session
 
 // ---- well formed
 
-/// A rate, a queue capacity, a capture capacity and a pool in their ranges.
+/// A rate, a queue capacity, a capture capacity and a pool in their ranges, and a known mode.
 pub fn settings_ok(x: Settings) -> bool
     ensures { λ r. ⌜ r ≡ settingsOk x ⌝ }
 {
@@ -269,6 +270,7 @@ pub fn settings_ok(x: Settings) -> bool
         & ((1 <= x.queue) & (x.queue <= COMMAND_QUEUE_CAP))
         & (x.capture <= COMMAND_QUEUE_CAP)
         & ((1 <= x.pool) & (x.pool <= POOL_CAP))
+        & (x.mode <= HOUSE)
 }
 
 /// The numbers are in range: the settings, the clock to 2^62, and no count passes its store.

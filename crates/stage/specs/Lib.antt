@@ -1,3 +1,4 @@
+pub mod Mode
 pub mod Playhead
 pub mod Sound
 pub mod Counters

@@ -25,6 +25,7 @@ use Rattle.stage.specs.declared.Tail.{Tail}
 use Rattle.stage.specs.declared.Faded.{Faded}
 use Rattle.stage.specs.declared.Sound.{Sound}
 use Rattle.stage.specs.declared.Rendered.{Rendered}
+use Rattle.stage.specs.Mode.{isHouse}
 
 -- a master, a tail and voices
 abbrev pub sound : Ramp → Tail → Voices → Sound
@@ -40,9 +41,9 @@ only r h = r
 unfoldable pub playedOf : Recording → Moved → Pair
 playedOf song m = cond (m .playing) (pairAt song (placeOf (m .cursor))) silence
 
--- the tail's share of a frame: tail × w; the master's g it ignores
+-- the tail's share of a frame: as tono tail × w; in house mode the tail is multiplied by g before w
 abbrev pub tailShare : Settings → Float → Pair → Float → Pair
-tailShare x g p w = times p w
+tailShare x g p w = cond (isHouse x) (times (times p g) w) (times p w)
 
 -- d. plus the share where there is a tail: w ticks, and the tail reads straight on
 unfoldable pub withTail : Settings → View → Float → Tail → Pair → Pair

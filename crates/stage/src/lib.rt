@@ -10,6 +10,7 @@ ghost use Rattle.bank.specs.Recording.{recordingOf, viewOf};
 ghost use Rattle.oneshot.specs.Pair.{pairAt};
 ghost use Rattle.oneshot.specs.Sounding.{LiesIn};
 ghost use Rattle.stage.specs.declared.Tail.the-variants.{None};
+ghost use Rattle.stage.specs.Mode.{isHouse};
 ghost use Rattle.stage.specs.Playhead.{movedOf, playheadBy};
 ghost use Rattle.stage.specs.Sound.{only, playedOf, tailShare, fadedOf, renderedOf, clampOf, tailFrom, soundBy};
 ghost use Rattle.stage.specs.Counters.{countersBy};
@@ -36,13 +37,29 @@ pub const SWAP_FADE_FRAMES: u32 = 1024;
 /// How long a master gain change takes.
 pub const GAIN_RAMP_FRAMES: u32 = 256;
 
-/// Fixed at opening: the rate, how many records the queue and the capture hold, and the pool's frames.
+/// The mode in which a swap's tail ignores the master.
+pub const AS_TONO: u32 = 0;
+
+/// The mode in which a swap's tail is under the master.
+pub const HOUSE: u32 = 1;
+
+/// Fixed at opening: the rate, the mode, how many records the queue and the capture hold, and the pool's frames.
 #[repr(C)]
 pub struct Settings {
     pub rate: u32,
+    pub mode: u32,
     pub queue: usize,
     pub capture: usize,
     pub pool: u64,
+}
+
+impl Settings {
+    /// The session is in house mode.
+    pub fn is_house(self) -> bool
+        ensures { λ r. ⌜ r ≡ isHouse self ⌝ }
+    {
+        self.mode == HOUSE
+    }
 }
 
 /// Where the song stands, and which song it is.
@@ -189,11 +206,14 @@ pub fn played(pool: &[f32], song: Clip, m: Moved) -> Pair
     }
 }
 
-/// The tail's share of a frame: tail × w; the master's g it ignores.
-pub fn tail_share(settings: Settings, g: f32, p: Pair, w: f32) -> Pair
-    ensures { λ r. ⌜ r ≡ tailShare settings g p w ⌝ }
+/// The tail's share of a frame: as tono tail × w, in house mode (tail × g) × w.
+fn tail_share(settings: Settings, g: f32, tail: Pair, w: f32) -> Pair
+    ensures { λ r. ⌜ r ≡ tailShare settings g tail w ⌝ }
 {
-    p.times(w)
+    if settings.is_house() {
+        return tail.times(g).times(w);
+    }
+    tail.times(w)
 }
 
 impl Fade {

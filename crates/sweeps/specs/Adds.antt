@@ -1,7 +1,7 @@
 -- What the sweeps of a run make of each place. Definitions only.
 use Prim.Native.Nat.{ℕ, zero, suc, _+_, _-_, _/_, _≤_}
 use mathlib.Core.Path.{_≡_}
-use mathlib.Core.Bool.{true, cond}
+use mathlib.Core.Bool.{Bool, true, cond}
 use mathlib.Core.List.{List}
 use lib.ListN.{getD}
 use lib.Ieee.{Float, nan, binary32, add, mul}
@@ -49,14 +49,18 @@ fourAdds pool a b c d k x = streamAdds pool d k (streamAdds pool c k (streamAdds
 abbrev pub adds : List Float → Part → Ramp → ℕ → Float → Float
 adds pool p r k x = add binary32 x (mul binary32 (shareOf pool p k) (gainAt r (k / 2)))
 
--- the song × a, plus the tail × b, and that before what stands there
-abbrev pub bothBy : List Float → Part → Part → Float → Float → ℕ → Float → Float
-bothBy pool s t a b k x = add binary32 (add binary32 (mul binary32 (shareOf pool s k) a) (mul binary32 (shareOf pool t k) b)) x
+-- what a tail's weight is multiplied with: in house mode the tail × the master's gain, else the tail
+abbrev pub underOf : Bool → Float → Float → Float
+underOf house g y = cond house (mul binary32 y g) y
+
+-- the song × a, plus the tail × b, in house mode × a before, and that before what stands there
+abbrev pub bothBy : Bool → List Float → Part → Part → Float → Float → ℕ → Float → Float
+bothBy house pool s t a b k x = add binary32 (add binary32 (mul binary32 (shareOf pool s k) a) (mul binary32 (underOf house a (shareOf pool t k)) b)) x
 
 -- by the master and the tail's weight
-abbrev pub bothAdds : List Float → Part → Part → Ramp → Ramp → ℕ → Float → Float
-bothAdds pool s t g w k x = bothBy pool s t (gainAt g (k / 2)) (gainAt w (k / 2)) k x
+abbrev pub bothAdds : Bool → List Float → Part → Part → Ramp → Ramp → ℕ → Float → Float
+bothAdds house pool s t g w k x = bothBy house pool s t (gainAt g (k / 2)) (gainAt w (k / 2)) k x
 
 -- by a gain that stands still and a weight that begins in frame j
-abbrev pub stillBoth : List Float → Part → Part → ℕ → Float → Ramp → ℕ → Float → Float
-stillBoth pool s t j g w k x = bothBy pool s t g (gainAt w (k / 2 - j)) k x
+abbrev pub stillBoth : Bool → List Float → Part → Part → ℕ → Float → Ramp → ℕ → Float → Float
+stillBoth house pool s t j g w k x = bothBy house pool s t g (gainAt w (k / 2 - j)) k x

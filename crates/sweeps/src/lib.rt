@@ -5,7 +5,7 @@ ghost use Prim.Native.Nat.{_+_, _-_, _*_, _≤_, _<_, min};
 ghost use lib.ListN.{length};
 ghost use Rattle.ramp.specs.Ramp.{tickOf};
 ghost use Rattle.sweeps.specs.Over.{over};
-ghost use Rattle.sweeps.specs.Adds.{shareOf, ticksOf, stillAdds, streamAdds, fourAdds, adds, bothAdds, stillBoth, cleared, Reads};
+ghost use Rattle.sweeps.specs.Adds.{shareOf, ticksOf, stillAdds, streamAdds, fourAdds, adds, underOf, bothAdds, stillBoth, cleared, Reads};
 use ramp::Ramp;
 
 /// Where in the pool a run's samples stand, or that it is silent.
@@ -156,8 +156,19 @@ pub fn add_part(pool: &[f32], part: Part, out: &mut [f32], frames: usize, ramp: 
     r
 }
 
-/// From a frame to a frame the song × a gain that stands still, plus the tail × a weight that does not land, and that before what stands there. The weight that they leave.
+/// What a tail's weight is multiplied with: in house mode the tail × the master's gain, else the tail.
+fn under(house: bool, gain: f32, tail: f32) -> f32
+    ensures { λ r. ⌜ r ≡ underOf house gain tail ⌝ }
+{
+    if house {
+        return tail * gain;
+    }
+    tail
+}
+
+/// From a frame to a frame the song × a gain that stands still, plus the tail, in house mode × that gain, × a weight that does not land, and that before what stands there. The weight that they leave.
 fn add_both_still(
+    house: bool,
     pool: &[f32],
     song: Part,
     tail: Part,
@@ -168,7 +179,7 @@ fn add_both_still(
     weight: Ramp,
 ) -> Ramp
     requires { ⌜ (from ≤ to) × (to * 2 ≤ length (now out)) × Reads (length (now pool)) song (to * 2) × Reads (length (now pool)) tail (to * 2) × (to - from < weight .remaining) ⌝ }
-    ensures { λ r. ⌜ (r ≡ ticksOf (to - from) weight) × (now (out .exit) ≡ over (stillBoth (now (pool .entry)) song tail from gain weight) (from * 2) (to * 2 - from * 2) (now (out .entry))) ⌝ }
+    ensures { λ r. ⌜ (r ≡ ticksOf (to - from) weight) × (now (out .exit) ≡ over (stillBoth house (now (pool .entry)) song tail from gain weight) (from * 2) (to * 2 - from * 2) (now (out .entry))) ⌝ }
 {
     let mut w = weight;
     let mut j = from;
@@ -178,9 +189,9 @@ fn add_both_still(
         let k = j * 2;
         let n = k + 1;
         let x = share(pool, song, k);
-        let y = share(pool, tail, k);
+        let y = under(house, gain, share(pool, tail, k));
         let z = share(pool, song, n);
-        let v = share(pool, tail, n);
+        let v = under(house, gain, share(pool, tail, n));
         out[k] = (x * gain + y * b) + out[k];
         out[n] = (z * gain + v * b) + out[n];
         w = next;
@@ -206,8 +217,9 @@ pub struct Gains {
     pub weight: Ramp,
 }
 
-/// In so many frames the song × the master, plus the tail × a weight that does not land, and that before what stands there. The ramps that they leave.
+/// In so many frames the song × the master, plus the tail, in house mode × the master, × a weight that does not land, and that before what stands there. The ramps that they leave.
 pub fn add_both(
+    house: bool,
     pool: &[f32],
     song: Part,
     tail: Part,
@@ -217,7 +229,7 @@ pub fn add_both(
     weight: Ramp,
 ) -> Gains
     requires { ⌜ (frames * 2 ≤ length (now out)) × Reads (length (now pool)) song (frames * 2) × Reads (length (now pool)) tail (frames * 2) × (frames < weight .remaining) ⌝ }
-    ensures { λ r. ⌜ (r .master ≡ ticksOf frames master) × (r .weight ≡ ticksOf frames weight) × (now (out .exit) ≡ over (bothAdds (now (pool .entry)) song tail master weight) 0 (frames * 2) (now (out .entry))) ⌝ }
+    ensures { λ r. ⌜ (r .master ≡ ticksOf frames master) × (r .weight ≡ ticksOf frames weight) × (now (out .exit) ≡ over (bothAdds house (now (pool .entry)) song tail master weight) 0 (frames * 2) (now (out .entry))) ⌝ }
 {
     let mut g = master;
     let mut w = weight;
@@ -226,7 +238,7 @@ pub fn add_both(
         let t = g.tick();
         g = t.ramp;
         let to = stays_to(g, j, frames);
-        w = add_both_still(pool, song, tail, &mut out[..], j, to, g.value, w);
+        w = add_both_still(house, pool, song, tail, &mut out[..], j, to, g.value, w);
         j = to;
     }
     Gains {

@@ -17,7 +17,7 @@ enum-known-tail c = search needs
 
 part-of-requires : tie.Need-part-of-requires
 part-of-requires c κs =
-    omega (arith, c .before .before .before .before .before .pre .clip, c .before .before .before .before .before .good .0)
+    omega (arith, c .before .before .before .before .before .pre .clip, c .before .before .before .before .before .good .1 .0)
 
 add-both-requires : tie.Need-add-both-requires
 add-both-requires c κs =

@@ -9,7 +9,7 @@ rate-ok-requires c κs = search needs
 
 returns : tie.Need-returns
 unfolding settingsOk
-returns c = simp (c .before .before .before .before .before .rate-ok .ensures)
+returns c = simp (c .before .before .before .before .before .before .rate-ok .ensures)
 
 pub settings-ok-spec : {M : Type 1} → statement M
 settings-ok-spec = tie.close (tie.spec rate-ok-requires returns)

@@ -9,13 +9,13 @@ use Rattle.sweeps.proofs.add_both.Statement.{statement}
 use Rattle.sweeps.proofs.add_both.Tie as tie
 
 abbrev Inv-loop : tie.InvT-loop
-Inv-loop pool song tail out₀ frames g₀ w₀ j₀ out g w j = Both pool song tail g₀ w₀ frames out₀ out g w j
+Inv-loop house pool song tail out₀ frames g₀ w₀ j₀ out g w j = Both house pool song tail g₀ w₀ frames out₀ out g w j
 
 abbrev μ-loop : tie.MeasureT-loop
-μ-loop pool song tail out₀ frames g₀ w₀ j₀ out g w j = frames - j
+μ-loop house pool song tail out₀ frames g₀ w₀ j₀ out g w j = frames - j
 
 loop-holds : tie.Need-loop-holds Inv-loop μ-loop
-loop-holds c = both-start _ _ _ _ _ _ _
+loop-holds c = both-start _ _ _ _ _ _ _ _
 
 tick-requires : tie.Need-tick-requires Inv-loop μ-loop
 tick-requires c κs = search needs
@@ -37,13 +37,13 @@ loop-again : tie.Need-loop-again Inv-loop μ-loop
 loop-again c =
     let e = c .before .before .before .before .stays-to .ensures in
     let a = c .before .before .add-both-still .ensures in
-    both-turn _ _ _ _ _ _ _ (c .before .before .before .before .before .before .before .before .loop .inv) _ (e .0) (e .1) _ (ap (λ u. u .ramp) (c .before .before .before .before .before .before .tick .ensures)) (e .2) _ (a .0) _ (a .1)
+    both-turn _ _ _ _ _ _ _ _ (c .before .before .before .before .before .before .before .before .loop .inv) _ (e .0) (e .1) _ (ap (λ u. u .ramp) (c .before .before .before .before .before .before .tick .ensures)) (e .2) _ (a .0) _ (a .1)
 
 same-length : tie.Need-same-length Inv-loop μ-loop
 same-length c = c .before .loop .inv .moving .sweeping .same
 
 returns : tie.Need-returns Inv-loop μ-loop
-returns c = both-end _ _ _ _ _ _ _ (c .before .loop .inv) (c .loop-test .left)
+returns c = both-end _ _ _ _ _ _ _ _ (c .before .loop .inv) (c .loop-test .left)
 
 pub add-both-spec : {M : Type 1} → statement M
 add-both-spec =

@@ -53,7 +53,7 @@ mul-t20 : tie.Need-mul-t20
 mul-t20 c = omega (arith, inside c, begun c .good .1 .1 .1 .1 .1 .0)
 
 -- what the run leaves is as long
-as-long : (c : tie.Else1) → length (c .before .before .before .run .last .1 .1 .1 .1 .0) ≡ length (begun c .args .out .now)
+as-long : (c : tie.Else1) → length (c .before .before .before .run .last .1 .1 .1 .1 .1 .0) ≡ length (begun c .args .out .now)
 as-long c = ap length (c .before .before .before .run .ensures .1) ∙ length-over _ 0 _ _
 
 slice-read-t22 : tie.Need-slice-read-t22

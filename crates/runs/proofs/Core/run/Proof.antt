@@ -21,21 +21,24 @@ parts h {t} {u} {g} {m} {f} {e} a b c = rw (a, b) (ap (λ x. record { playhead =
 song-part-requires : tie.Need-song-part-requires
 song-part-requires c κs = search needs
 
+is-house-requires : tie.Need-is-house-requires
+is-house-requires c κs = search needs
+
 over-sums-requires : tie.Need-over-sums-requires
 over-sums-requires c κs =
-    let s = c .before .before .before .before .before .before .before .before .before .before in
-    let h = s .pre .1 (omega (arith, c .before .before .before .before .before .before .before .if1 .left)) in
+    let s = c .before .before .before .before .before .before .before .before .before .before .before in
+    let h = s .pre .1 (omega (arith, c .before .before .before .before .before .before .before .before .if1 .left)) in
     record {
       room = s .pre .2;
-      song = rw (c .before .before .before .song-part .ensures) (song-reads (s .args .pool .now) (s .args .song) (s .args .self .playhead .transport) (s .args .n) (s .pre .0 .song) (h .song .inside));
+      song = rw (c .before .before .before .before .song-part .ensures) (song-reads (s .args .pool .now) (s .args .song) (s .args .self .playhead .transport) (s .args .n) (s .pre .0 .song) (h .song .inside));
       clip = s .pre .0 .tail;
       tail = h .tail;
     }
 
 transport-by-requires : tie.Need-transport-by-requires
 transport-by-requires c κs =
-    let s = c .before .before .before .before .before .before .before .before .before .before .before .before .before .before .before in
-    let h = s .pre .1 (omega (arith, c .before .before .before .before .before .before .before .before .before .before .before .before .if1 .left)) in
+    let s = c .before .before .before .before .before .before .before .before .before .before .before .before .before .before .before .before in
+    let h = s .pre .1 (omega (arith, c .before .before .before .before .before .before .before .before .before .before .before .before .before .if1 .left)) in
     (h .song .inside, h .song .low)
 
 same-length : tie.Need-same-length
@@ -50,9 +53,9 @@ returns c =
 returns-2 : tie.Need-returns-2
 returns-2 c =
     let o = c .before .before .before .before .before .over-sums .ensures in
-    (parts _ (c .transport-by .ensures) (o .0) (o .1), o .2 ∙ rw (c .before .before .before .before .before .before .before .before .before .song-part .ensures) refl)
+    (parts _ (c .transport-by .ensures) (o .0) (o .1), o .2 ∙ rw (c .before .before .before .before .before .before .before .is-house .ensures, c .before .before .before .before .before .before .before .before .before .before .song-part .ensures) refl)
 
 pub run-spec : {M : Type 1} → statement M
 run-spec =
     tie.close
-    (tie.spec returns song-part-requires over-sums-requires transport-by-requires same-length returns-2)
+    (tie.spec returns song-part-requires is-house-requires over-sums-requires transport-by-requires same-length returns-2)
