@@ -11,6 +11,7 @@ use block::BlockAnswered;
 use clips::LoadAnswered;
 use counts::SongFrame;
 use session::Session;
+use stage::AS_TONO;
 use stage::Settings;
 use submission::ReplayAnswered;
 
@@ -19,6 +20,7 @@ const RATE: u32 = 48000;
 /// Every session of the list has these.
 const SETTINGS: Settings = Settings {
     rate: RATE,
+    mode: AS_TONO,
     queue: 4096,
     capture: 4096,
     pool: 32768,

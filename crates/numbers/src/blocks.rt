@@ -16,6 +16,7 @@ use print::text;
 use ramp::Ramp;
 use session::Desk;
 use session::Session;
+use stage::AS_TONO;
 use stage::Counters;
 use stage::Fade;
 use stage::Playhead;
@@ -34,6 +35,7 @@ use transport::TransportState;
 fn settings() -> Settings {
     Settings {
         rate: 48000,
+        mode: AS_TONO,
         queue: 4,
         capture: 0,
         pool: 1200,
@@ -271,7 +273,7 @@ fn loop_wraps(pool: &[f32]) {
     text(b"\n");
 }
 
-/// A swap, the master at 0, which the tail ignores: its first frame at 1023/1024, its last but one at 1/1024, its last at 0.
+/// A swap, the master at 0, which the tail ignores as tono: its first frame at 1023/1024, its last but one at 1/1024, its last at 0.
 fn swap_tail(pool: &[f32]) {
     let mut queue = [0; 20];
     timeline::put_row(&mut queue, 0, row(0, 1, SWAP, 1));

@@ -9,6 +9,7 @@ use counts::SongFrame;
 use print::number;
 use print::text;
 use session::Session;
+use stage::AS_TONO;
 use stage::Settings;
 use timeline::Submission;
 use transport::At;
@@ -18,6 +19,7 @@ use transport::TransportState;
 /// A queue of 2, a capture of 1, a pool of 20 frames.
 const SETTINGS: Settings = Settings {
     rate: 48000,
+    mode: AS_TONO,
     queue: 2,
     capture: 1,
     pool: 20,

@@ -3,6 +3,7 @@ mod blocks;
 mod laps;
 mod loops;
 mod many;
+mod modes;
 mod refusals;
 mod same;
 mod story;
@@ -13,6 +14,7 @@ fn main() {
     refusals::all();
     loops::past_the_length();
     laps::all();
+    modes::all();
     story::replaced();
     many::queue_full();
 }

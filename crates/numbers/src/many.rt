@@ -5,6 +5,7 @@ use counts::ClockFrame;
 use print::number;
 use print::text;
 use session::Session;
+use stage::AS_TONO;
 use stage::Settings;
 use timeline::Submission;
 use transport::At;
@@ -44,6 +45,7 @@ fn one_more(s: Session, queue: [u64; 20480], capture: [u64; 5]) {
 pub fn queue_full() {
     let settings = Settings {
         rate: 48000,
+        mode: AS_TONO,
         queue: 4096,
         capture: 1,
         pool: 8,

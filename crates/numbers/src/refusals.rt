@@ -1,5 +1,6 @@
 //! Each refusal number at a call: 'Each gives its number alone; all lent stores and the session stay, save 15.'
 use bank::Kind;
+use block::BlockAnswered;
 use clips::LoadAnswer;
 use clips::LoadAnswered;
 use control::PerformanceSnapshot;
@@ -9,6 +10,8 @@ use counts::SongFrame;
 use print::text;
 use session::Answered;
 use session::Session;
+use stage::AS_TONO;
+use stage::HOUSE;
 use stage::Settings;
 use submission::SubmitAnswered;
 use timeline::Row;
@@ -22,10 +25,18 @@ const RATE: u32 = 48000;
 /// A queue of 2, a capture of 1, a pool of 8 frames.
 pub const SMALL: Settings = Settings {
     rate: RATE,
+    mode: AS_TONO,
     queue: 2,
     capture: 1,
     pool: 8,
 };
+
+/// The same in a mode.
+pub fn small(mode: u32) -> Settings {
+    let mut settings = SMALL;
+    settings.mode = mode;
+    settings
+}
 
 /// A session that opens with a song of two frames, in slot 0.
 pub fn opened(settings: Settings, queue: &[u64], capture: &[u64], pool: &mut [f32]) -> Session {
@@ -43,6 +54,18 @@ pub fn handle_of(a: LoadAnswer) -> Handle {
 }
 
 // ---- what a refused call is told by
+
+/// An opening with the pool of 8 frames: its answer, and whether the pool is as it was.
+fn open(settings: Settings, queue: &[u64], samples: &[f32]) {
+    let capture = [0; 5];
+    let pool = [0.0; 16];
+    let mut lent = pool;
+    let lasts = SongFrame(2);
+    let r = clips::open(settings, queue, &capture, &mut lent, samples, RATE, lasts);
+    let a = r.answer;
+    print::load_answer(a);
+    crate::told::kept(crate::same::samples(&lent, &pool));
+}
 
 /// A load: its answer, and whether session and pool are as they were.
 fn load_told(s: Session, r: LoadAnswered, pool: &[f32], was: &[f32]) {
@@ -73,6 +96,14 @@ fn answer_told(s: Session, r: Answered) {
     let after = r.session;
     print::answer(a);
     crate::told::kept(crate::same::session(s, after));
+}
+
+/// A block: its answer, and whether session and output are as they were.
+fn block_told(s: Session, r: BlockAnswered, out: &[f32], was: &[f32]) {
+    let a = r.answer;
+    let after = r.session;
+    crate::told::block_answer(a);
+    crate::told::kept(crate::same::session(s, after) & crate::same::samples(out, was));
 }
 
 /// A submission: its answer, and whether session, queue and capture are as they were.
@@ -150,6 +181,22 @@ fn stores() {
     crate::told::kept(crate::same::session(s, after));
 }
 
+/// The same of a session whose mode is set to an unknown one by hand, in every call.
+fn altered() {
+    let queue = [0; 10];
+    let capture = [0; 5];
+    let mut pool = [0.0; 16];
+    let mut s = opened(SMALL, &queue, &capture, &mut pool);
+    s.settings = small(2);
+    let mut out = [0.5; 2];
+    let was = out;
+    text(b"  a block of 1 in mode 2, set by hand: ");
+    let r = block::block(s, &queue, &capture, &pool, &mut out);
+    block_told(s, r, &out, &was);
+    text(b"  a command in it: ");
+    submit(s, queue, capture, Submission::Play);
+}
+
 /// '2: lent pool has another length.'
 fn pools() {
     let queue = [0; 10];
@@ -189,10 +236,7 @@ fn clock() {
     let was = out;
     text(b"  a block of 1 at clock 2^62: ");
     let r = block::block(s, &queue, &capture, &pool, &mut out);
-    let a = r.answer;
-    let after = r.session;
-    crate::told::block_answer(a);
-    crate::told::kept(crate::same::session(s, after) & crate::same::samples(&out, &was));
+    block_told(s, r, &out, &was);
 }
 
 /// '5: clip without samples.' '6: sample not finite or above 16.' '7: clip rate (8,000 to 192,000) outside its range.'
@@ -210,6 +254,20 @@ fn samples() {
     load(s, &queue, &capture, pool, &loud, RATE);
     text(b"  load at a rate of 7,999: ");
     load(s, &queue, &capture, pool, &click, 7999);
+}
+
+/// 'An unknown mode joins 7', which opening weighs first: before 1 and 3.
+fn modes() {
+    let queue = [0; 10];
+    let short = [0; 5];
+    let song = [0.25; 4];
+    let odd = [0.25; 3];
+    text(b"  open in mode 2: ");
+    open(small(2), &queue, &song);
+    text(b"  open in mode 2 with 3 samples, lent a queue of 1 record where 2 are named: ");
+    open(small(2), &short, &odd);
+    text(b"  the same in mode 1: ");
+    open(small(HOUSE), &short, &odd);
 }
 
 /// A load of one frame.
@@ -240,6 +298,7 @@ fn load_more(
 fn slots() {
     let settings = Settings {
         rate: RATE,
+        mode: AS_TONO,
         queue: 2,
         capture: 1,
         pool: 40,
@@ -421,6 +480,7 @@ fn ring_all(
 fn stingers() {
     let settings = Settings {
         rate: RATE,
+        mode: AS_TONO,
         queue: 17,
         capture: 1,
         pool: 8,
@@ -567,10 +627,12 @@ fn senseless() {
 pub fn all() {
     text(b"each refusal number, at a call that meets it\n");
     stores();
+    altered();
     pools();
     odd();
     clock();
     samples();
+    modes();
     slots();
     serials();
     room();

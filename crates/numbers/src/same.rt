@@ -55,7 +55,11 @@ pub fn samples(a: &[f32], b: &[f32]) -> bool {
 }
 
 fn settings(a: Settings, b: Settings) -> bool {
-    (a.rate == b.rate) & (a.queue == b.queue) & (a.capture == b.capture) & (a.pool == b.pool)
+    (a.rate == b.rate)
+        & (a.mode == b.mode)
+        & (a.queue == b.queue)
+        & (a.capture == b.capture)
+        & (a.pool == b.pool)
 }
 
 fn kind(a: Kind, b: Kind) -> bool {

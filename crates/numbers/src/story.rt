@@ -10,6 +10,7 @@ use counts::Handle;
 use counts::SongFrame;
 use print::text;
 use session::Session;
+use stage::AS_TONO;
 use stage::Settings;
 use timeline::Submission;
 use transport::At;
@@ -166,6 +167,7 @@ fn again(k: Kept, lent: [f32; 16], b: Handle) {
 pub fn replaced() {
     let settings = Settings {
         rate: 48000,
+        mode: AS_TONO,
         queue: 2,
         capture: 1,
         pool: 8,

@@ -7,6 +7,8 @@ mod visit;
 use print::text;
 use score::Scene;
 use session::Session;
+use stage::AS_TONO;
+use stage::HOUSE;
 
 /// A scene of the tour, cue by cue.
 fn play(
@@ -69,11 +71,25 @@ fn second_visit(list: &[u64; 25]) {
     visit::blocks(t, &queue, &capture, &pool, 20);
 }
 
+/// A brief one with the music turned down, in a mode.
+fn low_visit(mode: u32) {
+    let mut queue = [0; 40];
+    let mut capture = [0; 40];
+    let mut pool = [0.0; 16000];
+    sheet::mode(mode);
+    let s = visit::enter_briefly(mode, &queue, &capture, &mut pool);
+    play(s, &mut queue, &mut capture, &pool, Scene::Low);
+}
+
 fn main() {
     let mut list = [0; 25];
     sheet::heading();
     first_visit(&mut list);
     text(b"\n");
     second_visit(&list);
+    text(b"\n");
+    low_visit(AS_TONO);
+    text(b"\n");
+    low_visit(HOUSE);
     text(b"\n");
 }

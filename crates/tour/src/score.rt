@@ -87,6 +87,18 @@ fn leave(i: u32) -> Cue {
     }
 }
 
+/// The music is turned down in the hall, and still is when the nave takes over.
+fn low(i: u32) -> Cue {
+    match i {
+        0 => now(Submission::Play),
+        1 => now(Submission::Gain(0.25)),
+        2 => Cue::Blocks(2),
+        3 => now(Submission::Swap(NAVE)),
+        4 => Cue::Blocks(3),
+        _ => Cue::Rest,
+    }
+}
+
 /// A stretch of the tour.
 pub enum Scene {
     Hall,
@@ -94,6 +106,7 @@ pub enum Scene {
     Halt,
     Word,
     Leave,
+    Low,
 }
 
 /// No scene has more cues than this.
@@ -106,5 +119,6 @@ pub fn next(scene: Scene, i: u32) -> Cue {
         Scene::Halt => halt(i),
         Scene::Word => word(i),
         Scene::Leave => leave(i),
+        Scene::Low => low(i),
     }
 }

@@ -9,6 +9,7 @@ use print::number;
 use print::text;
 use session::Answer;
 use session::Session;
+use stage::HOUSE;
 use stage::Tail;
 use submission::ReplayAnswer;
 use timeline::Submission;
@@ -26,6 +27,15 @@ pub fn name(h: Handle) {
 }
 
 // ---- what the guide does, each on a line that it begins
+
+/// The mode of a visit.
+pub fn mode(m: u32) {
+    if m == HOUSE {
+        text(b"\n> enter in house mode");
+        return;
+    }
+    text(b"\n> enter as tono");
+}
 
 pub fn loaded(a: LoadAnswer) {
     match a {

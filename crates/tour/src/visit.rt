@@ -8,6 +8,7 @@ use control::SnapshotAnswer;
 use counts::Handle;
 use counts::SongFrame;
 use session::Session;
+use stage::AS_TONO;
 use stage::Settings;
 use timeline::Submission;
 use transport::At;
@@ -16,30 +17,55 @@ use transport::TransportState;
 
 const RATE: u32 = 8000;
 
-const SETTINGS: Settings = Settings {
-    rate: RATE,
-    queue: 8,
-    capture: 8,
-    pool: 8000,
-};
+fn settings(mode: u32) -> Settings {
+    Settings {
+        rate: RATE,
+        mode: mode,
+        queue: 8,
+        capture: 8,
+        pool: 8000,
+    }
+}
 
 // ---- opening and loading
 
 /// A visit begins in the hall, with the nave and the bell at hand.
 pub fn enter(queue: &[u64; 40], capture: &[u64; 40], pool: &mut [f32; 16000]) -> Session {
+    let mut hall = [0.0; 8000];
     let mut nave = [0.0; 6000];
     let mut bell = [0.0; 1200];
+    rooms::sound(&mut hall, rooms::HALL);
     rooms::sound(&mut nave, rooms::NAVE);
     rooms::sound(&mut bell, rooms::BELL);
-    let s = open(queue, capture, pool);
+    let s = open(AS_TONO, queue, capture, pool, &hall, SongFrame(4000));
     let t = load(s, queue, capture, pool, &nave, Kind::Song(SongFrame(3000)));
     load(t, queue, capture, pool, &bell, Kind::Stinger)
 }
 
-fn open(queue: &[u64; 40], capture: &[u64; 40], pool: &mut [f32; 16000]) -> Session {
-    let mut hall = [0.0; 8000];
+/// A visit to the hall's first two bars and the nave's first, in a mode.
+pub fn enter_briefly(
+    mode: u32,
+    queue: &[u64; 40],
+    capture: &[u64; 40],
+    pool: &mut [f32; 16000],
+) -> Session {
+    let mut hall = [0.0; 4000];
+    let mut nave = [0.0; 2000];
     rooms::sound(&mut hall, rooms::HALL);
-    let r = clips::open(SETTINGS, queue, capture, pool, &hall, RATE, SongFrame(4000));
+    rooms::sound(&mut nave, rooms::NAVE);
+    let s = open(mode, queue, capture, pool, &hall, SongFrame(2000));
+    load(s, queue, capture, pool, &nave, Kind::Song(SongFrame(1000)))
+}
+
+fn open(
+    mode: u32,
+    queue: &[u64; 40],
+    capture: &[u64; 40],
+    pool: &mut [f32; 16000],
+    hall: &[f32],
+    lasts: SongFrame,
+) -> Session {
+    let r = clips::open(settings(mode), queue, capture, pool, hall, RATE, lasts);
     let a = r.answer;
     sheet::loaded(a);
     r.session
