@@ -4,7 +4,7 @@ use std::fmt;
 use std::panic::{AssertUnwindSafe, catch_unwind};
 
 use crate::ours::Ours;
-use crate::script::{Answer, Call, Material, Standing};
+use crate::script::{Answer, Call, Material, Standing, mode};
 use crate::theirs::Theirs;
 
 /// The first difference of a session.
@@ -43,7 +43,7 @@ pub struct Both {
 
 impl Both {
     pub fn open(seed: u64, rate: u32, song: Material, lines: bool) -> Result<Both, Difference> {
-        let (ours, our_answer) = Ours::open(rate, song);
+        let (ours, our_answer) = Ours::open(mode::AS_TONO, rate, song);
         let (theirs, their_answer) = Theirs::open(rate, song);
         let mut both = Both {
             ours,

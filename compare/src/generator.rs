@@ -2,19 +2,18 @@
 //! towards short songs, loops, crowded frames and crowded swaps. Long ones also have clips of a few frames,
 //! clips that are spoiled, choruses, and blocks up to where something ends; a short one draws for none of it.
 
-use std::mem;
-
 use threshreed::raw::{At, Clip, Command, Handle, Ramp, Session};
 
 use crate::both::{Both, Difference};
 use crate::dice::Dice;
 use crate::domain::Walk;
+use crate::house::House;
 use crate::ours::{Row, handle_word};
 use crate::reached::{Moment, Reached};
 use crate::runtime::SCRATCH_FRAMES;
 use crate::script::{
-    Answer, CAPTURE, Call, Material, NOW, POOL, QUEUE, RATE, SONG, STINGER, at_frame, at_song,
-    kind, plain, state,
+    CAPTURE, Call, Material, NOW, POOL, QUEUE, RATE, SONG, STINGER, at_frame, at_song, kind, plain,
+    state,
 };
 
 /// How long a session is.
@@ -44,7 +43,7 @@ pub struct Played {
     pub lines: String,
 }
 
-/// Plays the session of this seed on both sides.
+/// Plays the session of this seed on both sides, and on ours in house mode too.
 pub fn play(seed: u64, size: Size, lines: bool) -> Result<Played, Difference> {
     let mut dice = Dice::new(seed);
     let song = song(&mut dice, size, 1);
@@ -54,6 +53,7 @@ pub fn play(seed: u64, size: Size, lines: bool) -> Result<Played, Difference> {
     };
     let mut player = Player {
         both: Both::open(seed, rate, song, lines)?,
+        house: House::open(rate, song),
         mood: mood(&mut dice, size),
         dice,
         cuts: Dice::new(!seed),
@@ -74,6 +74,7 @@ pub fn play(seed: u64, size: Size, lines: bool) -> Result<Played, Difference> {
 
 struct Player {
     both: Both,
+    house: House,
     dice: Dice,
     /// Decides where blocks are cut, and nothing of the session.
     cuts: Dice,
@@ -198,44 +199,24 @@ impl Player {
         Ok(true)
     }
 
-    /// Plays a call on both sides and looks at what it reached.
+    /// Plays a call on both sides and in house mode, and looks at what it reached.
     fn call(&mut self, call: Call) -> Result<(), Difference> {
         let before = Moment::of(&self.both.ours);
         let answer = self.both.play(&call)?;
+        let ours = &mut self.both.ours;
         let pieces = match call {
-            Call::Block(frames) => self.cut(before.session, frames, &answer),
+            Call::Block(frames) => ours.cut(before.session, frames, &answer, &mut self.cuts),
             _ => Vec::new(),
         };
+        if self.house.play(&call, ours, &answer, &mut self.cuts) {
+            self.reached.see_otherwise();
+        }
         self.passes += answer.passes();
         self.check_laps(&call, before.session.laps);
         let after = Moment::of(&self.both.ours);
         self.reached
             .see(&call, &answer, &before, &after, &pieces, &self.retired);
         Ok(())
-    }
-
-    /// Makes our block again from where it began, in pieces of any length: the samples and the session are the
-    /// same, and the passes add up. Gives the passes of each piece. A block writes no store, so that the session
-    /// alone goes back.
-    fn cut(&mut self, begun: Session, frames: usize, whole: &Answer) -> Vec<u64> {
-        let ours = &mut self.both.ours;
-        let ended = mem::replace(&mut ours.session, begun);
-        let (mut samples, mut passes) = (Vec::new(), Vec::new());
-        while samples.len() < 2 * frames {
-            let left = frames - samples.len() / 2;
-            let piece = self.cuts.from(0, left as u64);
-            match ours.play(&Call::Block(piece as usize)) {
-                Answer::Made(bits, made) => {
-                    samples.extend(bits);
-                    passes.push(made);
-                }
-                other => panic!("a piece of a block answers {other:?}"),
-            }
-        }
-        let pieces = Answer::Made(samples, passes.iter().sum());
-        assert!(pieces == *whole, "a cut block answers otherwise");
-        assert!(ours.session == ended, "a cut block ends otherwise");
-        passes
     }
 
     /// The laps are 0 without a loop, and never more than the passes of all blocks. What a block makes of them the

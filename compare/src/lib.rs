@@ -4,12 +4,13 @@
 //!
 //! [`both`] plays a call on [`ours`] and on [`theirs`] and compares the answers and how the two then stand;
 //! [`script`] says what a call and an answer are. [`generator`] makes random sessions inside [`domain`], and
-//! each block of ours in pieces too; [`reached`] counts what they reach, and [`list`] writes the fixed list of
-//! the Rust's answers. [`faults`] are planted into a copy of the Rust to show that the comparison sees them.
+//! each block of ours in pieces too; [`house`] plays them in house mode, which the Rust does not have.
+//! [`reached`] counts what they reach, and [`list`] writes the fixed list of the Rust's answers. [`faults`] are
+//! planted into a copy of the Rust to show that the comparison sees them.
 //!
 //! - `cargo test`: document 01's numbers on the Rust, the differences on both, the declick at every rate and
-//!   the passes of a loop on both, spoiled sessions through the static library, 2,000 random sessions on both,
-//!   the fixed list, and the planted faults.
+//!   the passes of a loop on both, spoiled sessions through the static library, 2,000 random sessions on both
+//!   and in house mode, the fixed list, and the planted faults.
 //! - `cargo run --release --bin sessions -- 20000 [first seed]`: as many sessions as are wanted.
 //! - `cargo run --release --bin answers`: writes the fixed list.
 //! - `cargo run --release --bin speed`: how fast both are; `compare/instructions` counts instructions instead.
@@ -22,6 +23,7 @@ pub mod dsl;
 pub mod dsp;
 pub mod faults;
 pub mod generator;
+pub mod house;
 pub mod list;
 pub mod ours;
 pub mod program;

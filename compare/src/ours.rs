@@ -1,8 +1,11 @@
 //! Our side: the proved library, through its static library, with the stores that a host lends it.
 
+use std::mem;
+
 use threshreed::raw::{self, Command, Handle};
 
 use crate::clip;
+use crate::dice::Dice;
 use crate::script::{Answer, CAPTURE, Call, Material, POOL, QUEUE, Standing, snapshot_numbers};
 
 /// What the pool holds where no clip lies: heard at once, if it is ever read.
@@ -29,16 +32,17 @@ pub fn handle_word(clip: Handle) -> u64 {
 }
 
 impl Ours {
-    pub fn open(rate: u32, song: Material) -> (Ours, Answer) {
-        let (mut ours, answer) = Ours::open_on(rate, &song.samples(), song.extent);
+    pub fn open(mode: u32, rate: u32, song: Material) -> (Ours, Answer) {
+        let (mut ours, answer) = Ours::open_on(mode, rate, &song.samples(), song.extent);
         ours.spoil(song, &answer);
         (ours, answer)
     }
 
     /// A session on a song of these samples.
-    pub fn open_on(rate: u32, samples: &[f32], extent: u64) -> (Ours, Answer) {
+    pub fn open_on(mode: u32, rate: u32, samples: &[f32], extent: u64) -> (Ours, Answer) {
         let settings = raw::Settings {
             rate,
+            mode,
             queue: QUEUE,
             capture: CAPTURE,
             pool: POOL,
@@ -143,6 +147,35 @@ impl Ours {
         answer(made.refusal, Answer::made(&out, made.passes))
     }
 
+    /// Makes a block again from where it began, in pieces of any length: the samples and the session are the same,
+    /// and the passes add up. Gives the passes of each piece. A block writes no store, so that the session alone goes
+    /// back.
+    pub fn cut(
+        &mut self,
+        begun: raw::Session,
+        frames: usize,
+        whole: &Answer,
+        cuts: &mut Dice,
+    ) -> Vec<u64> {
+        let ended = mem::replace(&mut self.session, begun);
+        let (mut samples, mut passes) = (Vec::new(), Vec::new());
+        while samples.len() < 2 * frames {
+            let left = frames - samples.len() / 2;
+            let piece = cuts.from(0, left as u64);
+            match self.block(piece as usize) {
+                Answer::Made(bits, made) => {
+                    samples.extend(bits);
+                    passes.push(made);
+                }
+                other => panic!("a piece of a block answers {other:?}"),
+            }
+        }
+        let pieces = Answer::Made(samples, passes.iter().sum());
+        assert!(pieces == *whole, "a cut block answers otherwise");
+        assert!(self.session == ended, "a cut block ends otherwise");
+        passes
+    }
+
     fn start_capture(&mut self) -> Answer {
         let started = raw::start_capture(self.session, &self.queue, &self.capture);
         self.session = started.session;
@@ -224,6 +257,11 @@ impl Ours {
     /// The frame of the first queued record.
     pub fn first_due(&self) -> Option<u64> {
         self.waiting().next().map(|row| row[0])
+    }
+
+    /// Whether it is to be executed before the next frame.
+    pub fn is_due(&self) -> bool {
+        self.first_due().is_some_and(|at| at <= self.session.clock)
     }
 
     /// The voices that sound.

@@ -9,7 +9,7 @@ use crate::ours::{Ours, Row};
 use crate::script::{Answer, Call, kind, state};
 
 /// The situations, in the order in which they are counted.
-const NAMES: [&str; 39] = [
+const NAMES: [&str; 41] = [
     "16 voices",
     "two due at a block's end",
     "a swap in a swap",
@@ -49,6 +49,8 @@ const NAMES: [&str; 39] = [
     "laps left by a loop that is not set",
     "a loop's third pass",
     "a cut block with passes in two of its pieces",
+    "a tail under a master at rest that is not at 1.0",
+    "a tail under a master that moves",
 ];
 
 /// The fixed list must reach the first so many of them.
@@ -57,8 +59,8 @@ const LISTED: usize = 18;
 /// At most so many frames are few.
 const FEW: u64 = 8;
 
-/// A count for each situation, and of the calls, the frames, the samples that were not silent, the passes and the
-/// senseless loops.
+/// A count for each situation, and of the calls, the frames, the samples that were not silent, the passes, the
+/// senseless loops and the blocks that sound otherwise in house mode.
 #[derive(Clone, Copy)]
 pub struct Reached {
     situations: [u64; NAMES.len()],
@@ -67,6 +69,7 @@ pub struct Reached {
     sounding: u64,
     passes: u64,
     senseless: u64,
+    otherwise: u64,
 }
 
 /// Our session at a moment between two calls.
@@ -89,7 +92,7 @@ impl Moment {
         Moment {
             session: *session,
             first: ours.waiting().next().copied(),
-            due: ours.first_due().is_some_and(|at| at <= session.clock),
+            due: ours.is_due(),
             left: voices.iter().map(|voice| ours.left(voice)).collect(),
             silenced: [
                 session.state == state::PLAYING && ours.is_silenced(session.song, session.cursor),
@@ -186,6 +189,7 @@ impl Default for Reached {
             sounding: 0,
             passes: 0,
             senseless: 0,
+            otherwise: 0,
         }
     }
 }
@@ -286,6 +290,8 @@ impl Reached {
             executed == 1 && before.unset_loop() && was.laps > 0,
             passes > 0 && was.laps < 3 && is.laps >= 3,
             pieces.iter().filter(|passes| **passes > 0).count() > 1,
+            nothing_due && before.tail() && ride == 0 && was.master.value != 1.0,
+            nothing_due && before.tail() && ride > 0,
         ];
         for (count, seen) in self.situations.iter_mut().zip(seen) {
             *count += u64::from(seen);
@@ -297,6 +303,16 @@ impl Reached {
             self.frames += bits.len() as u64 / 2;
             self.sounding += bits.iter().filter(|bits| **bits != 0).count() as u64;
         }
+    }
+
+    /// A block sounds otherwise in house mode.
+    pub fn see_otherwise(&mut self) {
+        self.otherwise += 1;
+    }
+
+    /// How many blocks do.
+    pub fn otherwise(&self) -> u64 {
+        self.otherwise
     }
 
     /// How many loops were submitted whose start is not below their end: the domain has none.
@@ -331,6 +347,7 @@ impl AddAssign for Reached {
         self.sounding += more.sounding;
         self.passes += more.passes;
         self.senseless += more.senseless;
+        self.otherwise += more.otherwise;
     }
 }
 
@@ -341,6 +358,11 @@ impl fmt::Display for Reached {
         writeln!(f, "{:>10}  samples that were not silent", self.sounding)?;
         writeln!(f, "{:>10}  passes", self.passes)?;
         writeln!(f, "{:>10}  senseless loops", self.senseless)?;
+        writeln!(
+            f,
+            "{:>10}  blocks that sound otherwise in house mode",
+            self.otherwise
+        )?;
         for (name, count) in NAMES.into_iter().zip(self.situations) {
             writeln!(f, "{count:>10}  {name}")?;
         }

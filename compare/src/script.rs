@@ -16,6 +16,12 @@ pub const POOL: u64 = 32_768;
 pub const SONG: u32 = 1;
 pub const STINGER: u32 = 2;
 
+/// The modes of a session.
+pub mod mode {
+    pub const AS_TONO: u32 = 0;
+    pub const HOUSE: u32 = 1;
+}
+
 /// The kinds of a command, as a record numbers them.
 pub mod kind {
     pub const PLAY: u32 = 1;

@@ -1,13 +1,14 @@
 //! Document 02's Q-4: the declick comes from the rate by whole numbers, and has as many frames as before.
 
 use compare::runtime::ramp::Tween;
-use compare::script::{NOW, STINGER, kind, plain};
+use compare::script::{NOW, STINGER, kind, mode, plain};
 use threshreed::raw::{self, Command, Settings};
 
 /// The frames of a stinger's declick in a session of this rate, through the static library.
 fn declick(rate: u32) -> u32 {
     let settings = Settings {
         rate,
+        mode: mode::AS_TONO,
         queue: 1,
         capture: 0,
         pool: 4,

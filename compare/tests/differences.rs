@@ -8,7 +8,7 @@ use std::panic::{AssertUnwindSafe, catch_unwind};
 use common::{RATE, heard, left, now, numbered, started, steady, submit};
 use compare::ours::Ours;
 use compare::runtime::ramp::Tween;
-use compare::script::{Answer, Call, NOW, POOL, SONG, STINGER, at_frame, kind, plain};
+use compare::script::{Answer, Call, NOW, POOL, SONG, STINGER, at_frame, kind, mode, plain};
 use compare::session::{
     At, PerformanceError, PerformanceSnapshot, Session, Song, Stinger, Submission,
 };
@@ -28,7 +28,11 @@ fn numberedly(frames: u32) -> Vec<f32> {
 
 /// Our session over a song of these samples, as long as they are.
 fn ours(samples: &[f32]) -> Ours {
-    let (ours, answer) = Ours::open_on(RATE, samples, samples.len() as u64 / 2);
+    ours_in(mode::AS_TONO, samples)
+}
+
+fn ours_in(mode: u32, samples: &[f32]) -> Ours {
+    let (ours, answer) = Ours::open_on(mode, RATE, samples, samples.len() as u64 / 2);
     assert!(matches!(answer, Answer::Loaded(_)));
     ours
 }
@@ -265,7 +269,7 @@ fn any_sample_is_played() {
     assert!(out[0].is_nan());
     assert_eq!(out[1], 17.0);
 
-    let (_, answer) = Ours::open_on(RATE, &[f32::NAN, 0.0], 1);
+    let (_, answer) = Ours::open_on(mode::AS_TONO, RATE, &[f32::NAN, 0.0], 1);
     assert_eq!(answer, Answer::Refused(6));
     let mut ours = ours(&steadily(0.5, 2));
     let answer = ours.load(&[0.0, 17.0], STINGER, 1, RATE);
@@ -364,7 +368,7 @@ fn a_length_below_the_frames_is_taken() {
     assert_eq!(session.position(), 1);
 
     let samples = [0.5, 0.5, 0.25, 0.25];
-    let (_, answer) = Ours::open_on(RATE, &samples, 1);
+    let (_, answer) = Ours::open_on(mode::AS_TONO, RATE, &samples, 1);
     assert_eq!(answer, Answer::Refused(7));
     let answer = ours(&samples).load(&samples, SONG, 1, RATE);
     assert_eq!(answer, Answer::Refused(7));
@@ -429,4 +433,28 @@ fn a_tween_in_milliseconds_rounds_a_float() {
     let frames = |rate| format!("{:?}", Tween::ms(2.0, rate));
     assert_eq!(frames(10_773_748), format!("{:?}", Tween::frames(21_547)));
     assert_eq!(frames(10_773_749), format!("{:?}", Tween::frames(21_548)));
+}
+
+/// A gain of 0.25 at rest, then a swap to silence: what each frame of the tail sounds as.
+#[test]
+fn a_tail_ignores_the_master() {
+    let weight = |frame: usize| (1_023 - frame) as f32 / 1_024.0;
+    let as_tono: Vec<f32> = (0..1_024).map(|frame| 0.7 * weight(frame)).collect();
+    let house: Vec<f32> = (0..1_024)
+        .map(|frame| (0.7 * 0.25) * weight(frame))
+        .collect();
+
+    let mut session = started(&steady(0.7, 1_024), [Submission::Gain(0.25)]);
+    session.block(256);
+    now(&mut session, [Submission::Swap(steady(0.0, 1_024))]);
+    assert_eq!(left(&session.block(1_024)), as_tono);
+
+    for (mode, expected) in [(mode::AS_TONO, as_tono), (mode::HOUSE, house)] {
+        let mut ours = ours_in(mode, &steadily(0.7, 1_024));
+        let silence = loaded(&mut ours, &steadily(0.0, 1_024), SONG, RATE);
+        taken(&mut ours, gain(0.25));
+        sounded(&mut ours, 256);
+        taken(&mut ours, swap_to(silence));
+        assert_eq!(sounded(&mut ours, 1_024), expected);
+    }
 }

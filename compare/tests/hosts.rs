@@ -4,7 +4,7 @@
 use compare::clip;
 use compare::dice::Dice;
 use compare::ours::handle_word;
-use compare::script::{NOW, SONG, STINGER, at_frame, kind, plain, state};
+use compare::script::{NOW, SONG, STINGER, at_frame, kind, mode, plain, state};
 use threshreed::raw::{
     self, At, Clip, Command, Handle, Loop, NO_SUCH_CASE, Ramp, Session, Settings, Snapshot,
 };
@@ -180,12 +180,13 @@ fn bits(session: &Session) -> Vec<u64> {
     }
     let Settings {
         rate,
+        mode,
         queue,
         capture,
         pool,
     } = session.settings;
-    words.extend([u64::from(rate), queue as u64, capture as u64, pool]);
-    words.extend([session.used, session.last, session.state].map(u64::from));
+    words.extend([queue as u64, capture as u64, pool]);
+    words.extend([rate, mode, session.used, session.last, session.state].map(u64::from));
     words.extend([session.clock, session.position, session.cursor]);
     let looped = session.looped;
     words.extend([u64::from(looped.set), looped.start, looped.end]);
@@ -262,6 +263,7 @@ const FOREIGN_STINGER: u32 = 6;
 
 const SETTINGS: Settings = Settings {
     rate: RATE,
+    mode: mode::AS_TONO,
     queue: QUEUE,
     capture: CAPTURE,
     pool: POOL,
@@ -341,6 +343,11 @@ fn with(change: impl FnOnce(&mut Host)) -> Host {
     host
 }
 
+/// The same session in one of the modes.
+fn in_a_mode(dice: &mut Dice) -> Host {
+    with(|h| h.session.settings.mode = dice.pick(&[mode::AS_TONO, mode::HOUSE]))
+}
+
 /// Every call refuses the session with 1, whatever its arguments name.
 fn not_well_formed(what: &str, change: impl FnOnce(&mut Host)) {
     let host = with(change);
@@ -395,6 +402,9 @@ const SECOND: usize = 4;
 fn numbers_in_range() {
     not_well_formed("rate", |h| h.session.settings.rate = 7_999);
     not_well_formed("rate", |h| h.session.settings.rate = 192_001);
+    not_well_formed("mode", |h| h.session.settings.mode = 2);
+    not_well_formed("mode", |h| h.session.settings.mode = u32::MAX);
+    well_formed("mode", |h| h.session.settings.mode = mode::HOUSE);
     not_well_formed("no queue", |h| {
         h.session.settings.queue = 0;
         h.session.queued = 0;
@@ -624,7 +634,8 @@ fn cases() {
     refused(&["apply snapshot"], &|x| x.snapshot.looped.set = 2);
 }
 
-/// 'Ramp value and step may be any bits'; so may cursors, laps, the deepest depth, and whatever is not used.
+/// 'Ramp value and step may be any bits', in both modes; so may cursors, laps, the deepest depth, and whatever is not
+/// used.
 #[test]
 fn any_bits() {
     let mut dice = Dice::new(1);
@@ -632,6 +643,7 @@ fn any_bits() {
         let mut word = || dice.word();
         well_formed("any bits", |h| {
             let s = &mut h.session;
+            s.settings.mode = word() as u32 % 2;
             let [first, second, ..] = &mut s.voices.table;
             let ramps = [
                 &mut s.master,
@@ -687,7 +699,12 @@ fn a_refused_opening() {
         queue: 9,
         ..SETTINGS
     };
+    let mode = |mode| Settings { mode, ..SETTINGS };
+    let mode_and_queue = Settings { mode: 2, ..queue };
     let refused = [
+        (7, opened(mode(2), &samples, RATE, 50)),
+        (7, opened(mode(u32::MAX), &samples, RATE, 50)),
+        (7, opened(mode_and_queue, &samples, RATE, 50)),
         (7, opened(SETTINGS, &samples, 7_999, 50)),
         (7, opened(SETTINGS, &samples, RATE, 49)),
         (1, opened(queue, &samples, RATE, 50)),
@@ -729,7 +746,7 @@ fn any_arguments() {
     let mut dice = Dice::new(2);
     let mut seen = [false; 256];
     for _ in 0..20_000 {
-        let mut host = good();
+        let mut host = in_a_mode(&mut dice);
         let x = random_arguments(&mut dice, &host);
         if dice.one_in(10) {
             host.pool.truncate(dice.below(2 * POOL) as usize);
@@ -827,7 +844,7 @@ fn sessions_written_over() {
     let mut refused = 0;
     let mut taken = 0;
     for _ in 0..20_000 {
-        let mut host = good();
+        let mut host = in_a_mode(&mut dice);
         let x = random_arguments(&mut dice, &host);
         let odds = dice.pick(&[20, 300, 1_000]);
         spoil(&mut host.session, || {

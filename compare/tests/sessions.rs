@@ -1,4 +1,4 @@
-//! Random sessions on both sides, and the fixed list.
+//! Random sessions on both sides, and on ours in house mode; the fixed list.
 
 use std::fs;
 use std::path::Path;
@@ -12,6 +12,7 @@ fn our_library_and_the_rust_agree() {
     println!("{reached}");
     assert_eq!(reached.missing(), Vec::<&str>::new(), "never reached");
     assert_eq!(reached.senseless(), 0);
+    assert!(reached.otherwise() > 0, "house mode is never heard");
 }
 
 #[test]

@@ -22,8 +22,9 @@ static void expect(bool holds, const char *fact, int line)
 
 static const float pair[] = {0.5f, -0.5f, 0.25f, 0.25f};
 static const float seven[7];
+static const float old[] = {0.7f, -0.1f, 0.9f, 0.6f};
 
-/* There is no session: each call but tr_open is refused with 1. */
+/* There is no session that is well formed: each call but an opening is refused with 1. */
 static void expect_none(Threshreed *t)
 {
     const ThreshreedHandle clip = {0, 1};
@@ -75,13 +76,19 @@ static bool same(const ThreshreedSession *a, const ThreshreedSession *b)
             return false;
         }
     }
-    return SAME(settings.rate) && SAME(settings.queue) && SAME(settings.capture) && SAME(settings.pool) &&
-           SAME(used) && SAME(last) && SAME(clock) && SAME(state) && SAME(position) && SAME(cursor) &&
-           SAME(looped.set) && SAME(looped.start) && SAME(looped.end) && SAME(laps) && SAME(song) && SAME(master) &&
-           SAME(tail.sounding) && SAME(tail.song) && SAME(tail.cursor) && SAME(tail.weight) && SAME(voices) &&
-           SAME(counters) && SAME(queued) && SAME(number) && SAME(deepest) && SAME(dropped) && SAME(capturing) &&
-           SAME(captured);
+    return SAME(settings) && SAME(used) && SAME(last) && SAME(clock) && SAME(state) && SAME(position) &&
+           SAME(cursor) && SAME(looped.set) && SAME(looped.start) && SAME(looped.end) && SAME(laps) && SAME(song) &&
+           SAME(master) && SAME(tail.sounding) && SAME(tail.song) && SAME(tail.cursor) && SAME(tail.weight) &&
+           SAME(voices) && SAME(counters) && SAME(queued) && SAME(number) && SAME(deepest) && SAME(dropped) &&
+           SAME(capturing) && SAME(captured);
 #undef SAME
+}
+
+/* The same session and the same stores. */
+static bool unchanged(const Host *a, const Host *b)
+{
+    return same(&a->t.session, &b->t.session) && memcmp(a->queue, b->queue, sizeof a->queue) == 0 &&
+           memcmp(a->capture, b->capture, sizeof a->capture) == 0 && memcmp(a->pool, b->pool, sizeof a->pool) == 0;
 }
 
 /* A refused opening leaves things as they were: without a session, or with the one that plays. */
@@ -100,9 +107,7 @@ static void refused_openings(void)
     play(&other);
     memcpy(&before, &host, sizeof host);
     EXPECT(tr_open(&host.t, 48000, seven, LEN(seven), 48000, 8) == THRESHREED_ODD_SAMPLES);
-    EXPECT(same(&before.t.session, &host.t.session));
-    EXPECT(memcmp(before.queue, host.queue, sizeof host.queue) == 0);
-    EXPECT(memcmp(before.pool, host.pool, sizeof host.pool) == 0);
+    EXPECT(unchanged(&before, &host));
     EXPECT(tr_block(&host.t, host.out, LEN(host.out), NULL) == 0);
     EXPECT(tr_block(&other.t, other.out, LEN(other.out), NULL) == 0);
     EXPECT(memcmp(host.out, other.out, sizeof host.out) == 0 && host.out[0] > 0.2f && host.out[2] == 0.0f);
@@ -166,6 +171,50 @@ static void passes_and_laps(void)
     EXPECT(tr_laps(&host.t) == UINT64_MAX);
 }
 
+/* A swap from the old song to a silent one, while the master rests at 0.3: in a mode, in blocks of so many samples. */
+static void swap_under(Host *h, uint32_t mode, size_t samples)
+{
+    static const float silent[2];
+    ThreshreedSnapshot low;
+    ThreshreedHandle hall;
+    lend(h);
+    EXPECT(tr_open_in(&h->t, mode, 48000, old, LEN(old), 48000, 8) == 0 && tr_mode(&h->t) == mode);
+    EXPECT(tr_load_song(&h->t, silent, LEN(silent), 48000, 8, &hall) == 0 && tr_snapshot(&h->t, &low) == 0);
+    low.gain = 0.3f;
+    EXPECT(tr_apply_snapshot(&h->t, low) == 0 && tr_submit(&h->t, tr_swap(hall), tr_now()) == 0);
+    for (size_t i = 0; i < LEN(h->out); i += samples) {
+        EXPECT(tr_block(&h->t, h->out + i, samples, NULL) == 0);
+    }
+}
+
+/* A tail as tono and in house mode; a mode that is unknown, at opening and in a session. */
+static void modes(void)
+{
+    static Host host, cut, before;
+    for (uint32_t mode = THRESHREED_AS_TONO; mode <= THRESHREED_HOUSE; mode += 1) {
+        swap_under(&host, mode, LEN(host.out));
+        for (size_t i = 0; i < LEN(old); i += 1) {
+            float weight = (float)(1023 - i / 2) / 1024.0f;
+            float tail = mode == THRESHREED_HOUSE ? old[i] * 0.3f : old[i];
+            EXPECT(host.out[i] == tail * weight);
+        }
+        swap_under(&cut, mode, 2);
+        EXPECT(memcmp(host.out, cut.out, sizeof host.out) == 0 && same(&host.t.session, &cut.t.session));
+    }
+
+    /* 7 comes before the odd samples' 3. */
+    memcpy(&before, &host, sizeof host);
+    EXPECT(tr_open_in(&host.t, 2, 48000, pair, LEN(pair), 48000, 8) == THRESHREED_OUT_OF_RANGE);
+    EXPECT(tr_open_in(&host.t, UINT32_MAX, 48000, seven, LEN(seven), 48000, 8) == THRESHREED_OUT_OF_RANGE);
+    EXPECT(tr_open_in(&host.t, THRESHREED_HOUSE, 48000, seven, LEN(seven), 48000, 8) == THRESHREED_ODD_SAMPLES);
+    EXPECT(unchanged(&before, &host) && tr_mode(&host.t) == THRESHREED_HOUSE);
+
+    host.t.session.settings.mode = 2;
+    memcpy(&before, &host, sizeof host);
+    expect_none(&host.t);
+    EXPECT(unchanged(&before, &host));
+}
+
 /* NULL for a result that is not wanted. */
 static void unwanted_results(void)
 {
@@ -194,6 +243,7 @@ int main(void)
     refused_openings();
     lists_in_words();
     passes_and_laps();
+    modes();
     unwanted_results();
 
     /* Nothing is lent. */
@@ -209,6 +259,7 @@ int main(void)
     EXPECT(tr_open(&t, 48000, pair, LEN(pair), 48000, 2) == 0);
     porch = tr_song(&t);
     EXPECT(tr_clock(&t) == 0 && tr_position(&t) == 0 && tr_state(&t) == THRESHREED_STOPPED);
+    EXPECT(tr_mode(&t) == THRESHREED_AS_TONO);
     EXPECT(tr_loop_range(&t).set == 0 && tr_master_gain(&t) == 1.0f && tr_queue_depth(&t) == 0);
     EXPECT(tr_is_live(&t, porch));
 

@@ -82,6 +82,10 @@ enum {
     THRESHREED_STACK = 32768
 };
 
+/* A session's mode, chosen at opening. As tono: a swap's tail ignores the master gain, so that the old room bursts
+ * through at full level where the score is turned down. House: the tail is under the master gain, as the song is. */
+enum { THRESHREED_AS_TONO = 0, THRESHREED_HOUSE = 1 };
+
 /* A clip's kind. */
 enum { THRESHREED_CLIP_SONG = 1, THRESHREED_CLIP_STINGER = 2 };
 
@@ -107,9 +111,11 @@ enum { THRESHREED_AT_ONCE = 1, THRESHREED_AT_CLOCK = 2, THRESHREED_AT_SONG = 3 }
 
 /* ---- the structs, in the library's layout */
 
-/* Rate, capacity of the queue and of the capture in records, frames of the pool. */
+/* Rate, mode, capacity of the queue and of the capture in records, frames of the pool. A host that fills it itself
+ * writes the mode too, THRESHREED_AS_TONO (0) or THRESHREED_HOUSE: any other is out of range. */
 typedef struct {
     uint32_t rate;
+    uint32_t mode;
     size_t queue;
     size_t capture;
     uint64_t pool;
@@ -289,6 +295,7 @@ typedef struct {
 
 THRESHREED_SIZE(Settings, 32);
 THRESHREED_OFFSET(Settings, rate, 0);
+THRESHREED_OFFSET(Settings, mode, 4);
 THRESHREED_OFFSET(Settings, queue, 8);
 THRESHREED_OFFSET(Settings, capture, 16);
 THRESHREED_OFFSET(Settings, pool, 24);
@@ -499,7 +506,7 @@ typedef struct {
 
 /* Lends the stores: THRESHREED_WORDS words for each of the 1 to 4,096 commands of the queue and of the 0 to 4,096 of
  * the capture, two samples for each of the 1 to 33,554,432 frames of the pool. They are the session's until its end.
- * This comes first. There is no session until tr_open opens one, and each other call is refused with 1. */
+ * This comes first. There is no session until one is opened, and each other call is refused with 1. */
 static inline void tr_lend(Threshreed *t, uint64_t *queue, size_t queue_len, uint64_t *capture, size_t capture_len,
                            float *pool, size_t pool_len)
 {
@@ -515,13 +522,14 @@ static inline void tr_lend(Threshreed *t, uint64_t *queue, size_t queue_len, uin
     t->pool_len = pool ? pool_len : 0;
 }
 
-/* Opens a session on its first song, stopped at 0, gain 1.0. `length` in frames, from those in the samples to 2^40:
- * past its samples a song is silent. A session that runs is given up, unless the call is refused. */
-static inline uint32_t tr_open(Threshreed *t, uint32_t rate, const float *samples, size_t samples_len,
-                               uint32_t song_rate, uint64_t length)
+/* Opens a session in a mode on its first song, stopped at 0, gain 1.0. `length` in frames, from those in the samples
+ * to 2^40: past its samples a song is silent. A session that runs is given up, unless the call is refused. */
+static inline uint32_t tr_open_in(Threshreed *t, uint32_t mode, uint32_t rate, const float *samples,
+                                  size_t samples_len, uint32_t song_rate, uint64_t length)
 {
     ThreshreedSettings settings;
     settings.rate = rate;
+    settings.mode = mode;
     settings.queue = t->queue_len / THRESHREED_WORDS;
     settings.capture = t->capture_len / THRESHREED_WORDS;
     settings.pool = t->pool_len / 2;
@@ -533,6 +541,13 @@ static inline uint32_t tr_open(Threshreed *t, uint32_t rate, const float *sample
         t->session = r.session;
     }
     return r.refusal;
+}
+
+/* Opens a session as tono. */
+static inline uint32_t tr_open(Threshreed *t, uint32_t rate, const float *samples, size_t samples_len,
+                               uint32_t song_rate, uint64_t length)
+{
+    return tr_open_in(t, THRESHREED_AS_TONO, rate, samples, samples_len, song_rate, length);
 }
 
 /* Loads a clip of a kind. */
@@ -673,6 +688,9 @@ static inline uint32_t tr_metrics(const Threshreed *t, ThreshreedMetrics *metric
 
 /* ---- what a host reads */
 
+/* THRESHREED_AS_TONO or THRESHREED_HOUSE. */
+static inline uint32_t tr_mode(const Threshreed *t) { return t->session.settings.mode; }
+
 /* The clock: frames rendered. */
 static inline uint64_t tr_clock(const Threshreed *t) { return t->session.clock; }
 
@@ -751,7 +769,8 @@ static inline ThreshreedCommand tr_gain(float gain)
     return x;
 }
 
-/* The song under the handle plays from 0 with no loop; the old one fades out in 1,024 frames. */
+/* The song under the handle plays from 0 with no loop; the old one fades out in 1,024 frames, in house mode under the
+ * master gain. */
 static inline ThreshreedCommand tr_swap(ThreshreedHandle clip)
 {
     ThreshreedCommand x = tr_command(THRESHREED_SWAP);

@@ -1,5 +1,6 @@
 /* A tour of two minutes through three rooms, written as a WAV file: `tour FILE [BARS]`. It tells after how many bars
- * the lights change, which is when a loop has come round for the third time, and what the whole tour did.
+ * the lights change, which is when a loop has come round for the third time, and what the whole tour did. After it
+ * comes one threshold twice, while the guide speaks: as tono, where the old room bursts through, and in house mode.
  *
  * It makes its own clips, in plain float steps that hosts/rust/examples/tour.rs takes in the same order, so that both
  * write the same samples (on a little-endian machine, without fused steps: -ffp-contract=off). The pool has room for
@@ -12,12 +13,14 @@
 
 #define LEN(array) (sizeof(array) / sizeof(array)[0])
 
-enum { RATE = 48000, BEAT = 24000, BAR = 4 * BEAT, ROOM = 4 * BAR, BARS = 60, BLOCK = 480 };
+enum { RATE = 48000, BEAT = 24000, BAR = 4 * BEAT, ROOM = 4 * BAR, BARS = 60, THRESHOLD = 4, BLOCK = 480 };
 
 static uint64_t queue[64 * THRESHREED_WORDS], capture[64 * THRESHREED_WORDS];
 static float pool[2 * (2 * ROOM + BAR)];
 static float porch_clip[2 * ROOM], hall_clip[2 * ROOM], cellar_clip[2 * ROOM], bell_clip[2 * BAR];
 static Threshreed t;
+static FILE *file;
+static float peak;
 
 /* ---- the clips */
 
@@ -70,7 +73,7 @@ static void bell_of_one_bar(float *clip)
 
 /* ---- the file */
 
-static void put(FILE *file, uint32_t number, int bytes)
+static void put(uint32_t number, int bytes)
 {
     for (int i = 0; i < bytes; i += 1) {
         fputc((int)(number >> 8 * i & 255), file);
@@ -78,24 +81,24 @@ static void put(FILE *file, uint32_t number, int bytes)
 }
 
 /* The head of a stereo WAV file of 32-bit floats, for so many frames. */
-static void put_head(FILE *file, uint32_t frames)
+static void put_head(uint32_t frames)
 {
     fputs("RIFF", file);
-    put(file, 50 + 8 * frames, 4);
+    put(50 + 8 * frames, 4);
     fputs("WAVEfmt ", file);
-    put(file, 18, 4);
-    put(file, 3, 2); /* floats */
-    put(file, 2, 2); /* channels */
-    put(file, RATE, 4);
-    put(file, 8 * RATE, 4); /* bytes a second */
-    put(file, 8, 2);        /* bytes a frame */
-    put(file, 32, 2);       /* bits a sample */
-    put(file, 0, 2);
+    put(18, 4);
+    put(3, 2); /* floats */
+    put(2, 2); /* channels */
+    put(RATE, 4);
+    put(8 * RATE, 4); /* bytes a second */
+    put(8, 2);        /* bytes a frame */
+    put(32, 2);       /* bits a sample */
+    put(0, 2);
     fputs("fact", file);
-    put(file, 4, 4);
-    put(file, frames, 4);
+    put(4, 4);
+    put(frames, 4);
     fputs("data", file);
-    put(file, 8 * frames, 4);
+    put(8 * frames, 4);
 }
 
 /* ---- the tour */
@@ -114,6 +117,20 @@ static void submit(ThreshreedCommand command, ThreshreedAt at)
     need(tr_submit(&t, command, at));
 }
 
+/* Plays a block to the file, and tells its passes. */
+static uint64_t play(void)
+{
+    static float out[2 * BLOCK];
+    uint64_t passes;
+    need(tr_block(&t, out, LEN(out), &passes));
+    fwrite(out, sizeof *out, LEN(out), file);
+    for (size_t i = 0; i < LEN(out); i += 1) {
+        float level = out[i] < 0.0f ? -out[i] : out[i];
+        peak = level > peak ? level : peak;
+    }
+    return passes;
+}
+
 /* A beat of a bar, on the session's clock. */
 static ThreshreedAt on(uint64_t bar, uint64_t beat)
 {
@@ -123,6 +140,21 @@ static ThreshreedAt on(uint64_t bar, uint64_t beat)
 static ThreshreedCommand bars(uint64_t start, uint64_t end)
 {
     return tr_loop(start * BAR, end * BAR);
+}
+
+/* From the porch into the hall in a mode: the guide turns the score down for her words, and steps over when a note of
+ * the porch has just been struck. */
+static void cross(uint32_t mode)
+{
+    ThreshreedHandle hall;
+    need(tr_open_in(&t, mode, RATE, porch_clip, LEN(porch_clip), RATE, ROOM));
+    need(tr_load_song(&t, hall_clip, LEN(hall_clip), RATE, ROOM, &hall));
+    submit(tr_play(), tr_now());
+    submit(tr_gain(0.25f), on(1, 0));
+    submit(tr_swap(hall), tr_at_clock(3 * BAR + 240));
+    for (int block = 0; block < THRESHOLD * BAR / BLOCK; block += 1) {
+        play();
+    }
 }
 
 int main(int count, char **arguments)
@@ -149,13 +181,12 @@ int main(int count, char **arguments)
     ThreshreedSnapshot kept;
     need(tr_snapshot(&t, &kept));
 
-    FILE *file = fopen(arguments[1], "wb");
+    file = fopen(arguments[1], "wb");
     if (file == NULL) {
         perror(arguments[1]);
         return 1;
     }
-    put_head(file, (uint32_t)last * BAR);
-    float out[2 * BLOCK], peak = 0.0f;
+    put_head((uint32_t)(last + 2 * THRESHOLD) * BAR);
     uint64_t passes = 0;
     for (int bar = 0; bar < last; bar += 1) {
         switch (bar) {
@@ -242,25 +273,15 @@ int main(int count, char **arguments)
             break;
         }
         for (int block = 0; block < BAR / BLOCK; block += 1) {
-            uint64_t more;
-            need(tr_block(&t, out, LEN(out), &more));
+            uint64_t more = play();
             passes += more;
             if (more > 0 && tr_laps(&t) == 3) {
                 printf("lights   change after %d bars\n", bar + 1);
-            }
-            fwrite(out, sizeof *out, LEN(out), file);
-            for (size_t i = 0; i < LEN(out); i += 1) {
-                float level = out[i] < 0.0f ? -out[i] : out[i];
-                peak = level > peak ? level : peak;
             }
         }
         fprintf(stderr, "\rbar %d of %d", bar + 1, last);
     }
     fputs("\n", stderr);
-    if (ferror(file) || fclose(file) != 0) {
-        perror(arguments[1]);
-        return 1;
-    }
 
     ThreshreedMetrics metrics;
     need(tr_metrics(&t, &metrics));
@@ -271,6 +292,13 @@ int main(int count, char **arguments)
     printf("bells    %llu\n", (unsigned long long)metrics.fired);
     printf("passes   %llu\n", (unsigned long long)passes);
     printf("laps     %llu\n", (unsigned long long)tr_laps(&t));
+
+    cross(THRESHREED_AS_TONO);
+    cross(THRESHREED_HOUSE);
+    if (ferror(file) || fclose(file) != 0) {
+        perror(arguments[1]);
+        return 1;
+    }
     printf("peak     %.6f\n", (double)peak);
     return 0;
 }

@@ -1,5 +1,5 @@
-//! Plays random sessions on both sides: `cargo run --release --bin sessions -- 20000 [first seed]`.
-//! Prints how often each situation was reached, or the first difference.
+//! Plays random sessions on both sides, and on ours in house mode. Prints how often each situation was reached, or the
+//! first difference: `cargo run --release --bin sessions -- 20000 [first seed]`.
 
 use std::env;
 use std::process::ExitCode;

@@ -12,7 +12,7 @@ use std::hint::black_box;
 use std::time::Instant;
 
 use compare::session::{At, Session, Song, Stinger, Submission};
-use threshreed::{ClockFrame, Command, Handle, LoopRange, SongFrame, WORDS};
+use threshreed::{ClockFrame, Command, Handle, LoopRange, Mode, SongFrame, WORDS};
 
 const RATE: u32 = 48_000;
 const QUEUE: usize = 4_096;
@@ -65,8 +65,9 @@ impl Stores {
         }
     }
 
-    fn open(&mut self, song: &[f32]) -> threshreed::Session<'_> {
-        threshreed::Session::open(
+    fn open(&mut self, mode: Mode, song: &[f32]) -> threshreed::Session<'_> {
+        threshreed::Session::open_in(
+            mode,
             RATE,
             &mut self.queue,
             &mut [],
@@ -86,11 +87,11 @@ struct Both<'a> {
 }
 
 impl Both<'_> {
-    /// With so many clips for voices.
-    fn playing(stores: &mut Stores, bells: usize) -> Both<'_> {
+    /// Ours in a mode, with so many clips for voices.
+    fn playing(stores: &mut Stores, mode: Mode, bells: usize) -> Both<'_> {
         let room = audio(FRAMES, 220.0);
         let other = audio(FRAMES, 330.0);
-        let mut ours = stores.open(&interleaved(&room));
+        let mut ours = stores.open(mode, &interleaved(&room));
         let next = ours
             .load_song(threshreed::Song::new(&interleaved(&other), RATE))
             .expect("the song has room");
@@ -252,7 +253,8 @@ fn line(name: &str, of: impl Fn() -> Time) {
 enum During {
     Rest,
     Gain,
-    Swap,
+    /// A swap in a mode. The master is at 1.0, so that it sounds as tono's in both.
+    Swap(Mode),
     Pause,
     /// A loop of so many frames.
     Loop(u64),
@@ -289,7 +291,12 @@ fn cases() -> Vec<Case> {
             ..REST
         });
     }
-    for during in [During::Gain, During::Swap, During::Pause] {
+    for during in [
+        During::Gain,
+        During::Swap(Mode::AsTono),
+        During::Swap(Mode::House),
+        During::Pause,
+    ] {
         cases.extend(few(Case { during, ..REST }));
     }
     for frames in [1, 16, 64, 4_096] {
@@ -315,7 +322,8 @@ impl Case {
             During::Rest if self.waiting > 0 => format!("{} commands waiting", self.waiting),
             During::Rest => "at rest".to_string(),
             During::Gain => "during a gain ride".to_string(),
-            During::Swap => "during a swap".to_string(),
+            During::Swap(Mode::AsTono) => "during a swap".to_string(),
+            During::Swap(Mode::House) => "during a swap in house mode".to_string(),
             During::Pause => "paused".to_string(),
             During::Loop(frames) => format!("a loop of {frames} frames"),
         };
@@ -327,7 +335,11 @@ impl Case {
 
     fn scene<'a>(&self, stores: &'a mut Stores) -> Scene<'a> {
         let bells = if self.own { self.voices } else { 1 };
-        let mut both = Both::playing(stores, bells);
+        let mode = match self.during {
+            During::Swap(mode) => mode,
+            _ => Mode::AsTono,
+        };
+        let mut both = Both::playing(stores, mode, bells);
         both.ring(self.voices);
         match self.during {
             During::Pause => both.submit(Command::Pause, Submission::Pause, 0),
@@ -386,7 +398,7 @@ impl Scene<'_> {
                 self.louder = !self.louder;
                 self.both.gain(if self.louder { 1.5 } else { 0.5 }, 0);
             }
-            During::Swap => self.both.swap(),
+            During::Swap(_) => self.both.swap(),
             _ => return,
         }
         self.both.block(&mut [0.0; 2]);
@@ -410,7 +422,7 @@ impl Scene<'_> {
     fn round(&mut self) -> Time {
         self.prepare();
         let calls = match self.during {
-            During::Gain | During::Swap => 1,
+            During::Gain | During::Swap(_) => 1,
             _ => (1_024 / self.out.len()).max(1),
         };
         Time {
@@ -424,7 +436,7 @@ impl Scene<'_> {
 /// A submission into a queue of 4,095 or a little less: the last 64 places, one after the other.
 fn submission() -> Time {
     let mut stores = Stores::new();
-    let mut both = Both::playing(&mut stores, 0);
+    let mut both = Both::playing(&mut stores, Mode::AsTono, 0);
     both.block(&mut [0.0; 2]);
     both.wait(QUEUE - 64);
     let mut frame = LATER / 2;
@@ -453,7 +465,7 @@ fn load() -> Time {
     let samples = interleaved(&frames);
     let stinger = Stinger::new(RATE, &frames);
     let mut stores = Stores::new();
-    let mut ours = stores.open(&samples[..2]);
+    let mut ours = stores.open(Mode::AsTono, &samples[..2]);
     let mut tono = Session::open(&Song::new(RATE, &frames[..1], 1));
     run(ROUNDS, || {
         let clip = threshreed::Stinger {

@@ -1,5 +1,6 @@
 //! A tour of two minutes through three rooms, written as a WAV file: `tour FILE [BARS]`. It tells after how many bars
-//! the lights change, which is when a loop has come round for the third time, and what the whole tour did.
+//! the lights change, which is when a loop has come round for the third time, and what the whole tour did. After it
+//! comes one threshold twice, while the guide speaks: as tono, where the old room bursts through, and in house mode.
 //!
 //! It makes its own clips, in plain f32 steps that hosts/c/tour.c takes in the same order, so that both write the same
 //! samples. The pool has room for two rooms and the bell: the third room comes where the first one was.
@@ -10,7 +11,8 @@ use std::io::{BufWriter, Write};
 use std::sync::Mutex;
 
 use threshreed::{
-    At, ClockFrame, Command, LoopRange, Refusal, Session, Song, SongFrame, Stinger, Stores, WORDS,
+    At, ClockFrame, Command, LoopRange, Mode, Refusal, Session, Song, SongFrame, Stinger, Stores,
+    WORDS,
 };
 
 const RATE: u32 = 48_000;
@@ -18,9 +20,12 @@ const BEAT: usize = 24_000;
 const BAR: usize = 4 * BEAT;
 const ROOM: usize = 4 * BAR;
 const BARS: usize = 60;
+const THRESHOLD: usize = 4;
 const BLOCK: usize = 480;
 
-static STORES: Mutex<Stores<64, 64, { 2 * ROOM + BAR }>> = Mutex::new(Stores::new());
+type Rooms = Stores<64, 64, { 2 * ROOM + BAR }>;
+
+static STORES: Mutex<Rooms> = Mutex::new(Stores::new());
 
 // ---- the clips
 
@@ -112,6 +117,14 @@ impl Wav {
 
 // ---- the tour
 
+/// Plays a block to the file, and tells its passes.
+fn play(session: &mut Session, wav: &mut Wav) -> Result<u64, Box<dyn Error>> {
+    let mut out = [0.0; 2 * BLOCK];
+    let passes = session.block(&mut out)?;
+    wav.write(&out)?;
+    Ok(passes)
+}
+
 /// A beat of a bar, on the session's clock.
 fn on(bar: usize, beat: usize) -> At {
     At::Frame(ClockFrame((bar * BAR + beat * BEAT) as u64))
@@ -127,6 +140,27 @@ fn bars(start: usize, end: usize) -> Command {
         start: of_song(start),
         end: of_song(end),
     })
+}
+
+/// From the porch into the hall in a mode: the guide turns the score down for her words, and steps over when a note of
+/// the porch has just been struck.
+fn cross(
+    mode: Mode,
+    stores: &mut Rooms,
+    porch: &[f32],
+    hall: &[f32],
+    wav: &mut Wav,
+) -> Result<(), Box<dyn Error>> {
+    let mut session = stores.open_in(mode, RATE, Song::new(porch, RATE))?;
+    let hall = session.load_song(Song::new(hall, RATE))?;
+    session.submit(Command::Play, At::Immediate)?;
+    session.submit(Command::Gain(0.25), on(1, 0))?;
+    let struck = At::Frame(ClockFrame((3 * BAR + 240) as u64));
+    session.submit(Command::Swap(hall), struck)?;
+    for _ in 0..THRESHOLD * BAR / BLOCK {
+        play(&mut session, wav)?;
+    }
+    Ok(())
 }
 
 fn main() -> Result<(), Box<dyn Error>> {
@@ -151,8 +185,7 @@ fn main() -> Result<(), Box<dyn Error>> {
     let mut bells = [0; 3 * WORDS];
     let mut kept = session.snapshot()?;
 
-    let mut wav = Wav::create(&path, last * BAR)?;
-    let mut out = [0.0; 2 * BLOCK];
+    let mut wav = Wav::create(&path, (last + 2 * THRESHOLD) * BAR)?;
     let mut passes = 0;
     for bar in 0..last {
         match bar {
@@ -230,17 +263,15 @@ fn main() -> Result<(), Box<dyn Error>> {
             _ => {}
         }
         for _ in 0..BAR / BLOCK {
-            let more = session.block(&mut out)?;
+            let more = play(&mut session, &mut wav)?;
             passes += more;
             if more > 0 && session.laps() == 3 {
                 println!("lights   change after {} bars", bar + 1);
             }
-            wav.write(&out)?;
         }
         eprint!("\rbar {} of {last}", bar + 1);
     }
     eprintln!();
-    wav.file.flush()?;
 
     let metrics = session.metrics()?;
     println!("frames   {}", metrics.rendered);
@@ -250,6 +281,11 @@ fn main() -> Result<(), Box<dyn Error>> {
     println!("bells    {}", metrics.fired);
     println!("passes   {passes}");
     println!("laps     {}", session.laps());
+
+    for mode in [Mode::AsTono, Mode::House] {
+        cross(mode, &mut stores, &porch_clip, &hall_clip, &mut wav)?;
+    }
+    wav.file.flush()?;
     println!("peak     {:.6}", wav.peak);
     Ok(())
 }

@@ -38,6 +38,38 @@ pub struct LoopRange {
     pub end: SongFrame,
 }
 
+/// A session's mode, chosen at its opening.
+///
+/// The guide has turned the score down to 0.25, and the next room is silent: what the first frame of the swap lets
+/// through of the old one.
+///
+/// ```
+/// use threshreed::{At, Command, Mode, Song, Stores};
+///
+/// let weight = 1023.0 / 1024.0;
+/// for (mode, heard) in [(Mode::AsTono, 0.5 * weight), (Mode::House, 0.5 * 0.25 * weight)] {
+///     let mut stores = Stores::<8, 0, 4>::new();
+///     let mut session = stores.open_in(mode, 48_000, Song::new(&[0.5, -0.5], 48_000))?;
+///     let next = session.load_song(Song::new(&[0.0, 0.0], 48_000))?;
+///     session.submit(Command::Gain(0.25), At::Immediate)?;
+///     session.block(&mut [0.0; 2 * 256])?;
+///     session.submit(Command::Swap(next), At::Immediate)?;
+///     let mut out = [0.0; 2];
+///     session.block(&mut out)?;
+///     assert_eq!(out, [heard, -heard]);
+/// }
+/// # Ok::<(), threshreed::Refusal>(())
+/// ```
+#[derive(Clone, Copy, Debug, Default, PartialEq, Eq)]
+pub enum Mode {
+    /// A swap's tail ignores the master gain, so that the old room bursts through at full level where the score is
+    /// turned down.
+    #[default]
+    AsTono,
+    /// The tail is under the master gain, as the song is.
+    House,
+}
+
 /// What the ordinary submission takes: every command but a transition, which has its own call.
 #[derive(Clone, Copy, Debug, PartialEq)]
 pub enum Command {
@@ -53,7 +85,8 @@ pub enum Command {
     ClearLoop,
     /// The master gain, held to 0..2, reached in 256 frames.
     Gain(f32),
-    /// The song under the handle plays from 0 with no loop; the old one fades out in 1,024 frames.
+    /// The song under the handle plays from 0 with no loop; the old one fades out in 1,024 frames, in
+    /// [house mode](Mode::House) under the master gain.
     Swap(Handle),
     /// The stinger under the handle sounds at a gain; below 0 is 0.
     Stinger(Handle, f32),
@@ -138,6 +171,22 @@ impl From<At> for raw::At {
                 kind: 3,
                 frame: frame.0,
             },
+        }
+    }
+}
+
+impl Mode {
+    pub(crate) fn of(number: u32) -> Self {
+        match number {
+            1 => Mode::House,
+            _ => Mode::AsTono,
+        }
+    }
+
+    pub(crate) fn number(self) -> u32 {
+        match self {
+            Mode::AsTono => 0,
+            Mode::House => 1,
         }
     }
 }

@@ -25,7 +25,8 @@
 //! # Ok::<(), Box<dyn std::error::Error>>(())
 //! ```
 //!
-//! A block answers how often a loop came round in it, and [`Session::laps`] how often since the loop was set.
+//! A block answers how often a loop came round in it, and [`Session::laps`] how often since the loop was set. A session
+//! plays as tono does, or in house mode, where a swap's tail is under the master gain ([`Mode`]).
 //!
 //! `examples/tour.rs` plays two minutes to a WAV file, `examples/told.rs` prints what each command did.
 
@@ -36,7 +37,7 @@ pub mod raw;
 mod refusal;
 mod session;
 
-pub use command::{At, ClockFrame, Command, Handle, LoopRange, Snapshot, SongFrame, State};
+pub use command::{At, ClockFrame, Command, Handle, LoopRange, Mode, Snapshot, SongFrame, State};
 pub use raw::{Metrics, Report};
 pub use refusal::Refusal;
 pub use session::{Session, Song, Stinger, Stores, WORDS};

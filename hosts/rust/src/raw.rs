@@ -6,10 +6,12 @@ pub const VOICES: usize = 16;
 /// The refusal of an argument that names no case. It is a host's own, far above the table's.
 pub const NO_SUCH_CASE: u32 = 255;
 
+/// Mode: 0 as tono, 1 house.
 #[repr(C)]
 #[derive(Clone, Copy, Debug, PartialEq)]
 pub struct Settings {
     pub rate: u32,
+    pub mode: u32,
     pub queue: usize,
     pub capture: usize,
     pub pool: u64,

@@ -2,7 +2,9 @@
 
 use core::fmt;
 
-use crate::command::{At, ClockFrame, Command, Handle, LoopRange, Snapshot, SongFrame, State};
+use crate::command::{
+    At, ClockFrame, Command, Handle, LoopRange, Mode, Snapshot, SongFrame, State,
+};
 use crate::raw::{self, Metrics, Report};
 use crate::refusal::Refusal;
 
@@ -66,10 +68,21 @@ impl<const QUEUE: usize, const CAPTURE: usize, const POOL: usize> Stores<QUEUE, 
         }
     }
 
-    /// Opens a session on its first song, in these stores: they are its own until it is dropped. Of what an earlier
-    /// session left in them nothing counts. A refused opening leaves them as they were.
+    /// Opens a session on its first song, as tono (see [`Mode`]), in these stores: they are its own until it is dropped.
+    /// Of what an earlier session left in them nothing counts. A refused opening leaves them as they were.
     pub fn open(&mut self, rate: u32, song: Song<'_>) -> Result<Session<'_>, Refusal> {
-        Session::open(
+        self.open_in(Mode::default(), rate, song)
+    }
+
+    /// Opens a session in a mode likewise.
+    pub fn open_in(
+        &mut self,
+        mode: Mode,
+        rate: u32,
+        song: Song<'_>,
+    ) -> Result<Session<'_>, Refusal> {
+        Session::open_in(
+            mode,
             rate,
             self.queue.as_flattened_mut(),
             self.capture.as_flattened_mut(),
@@ -97,9 +110,9 @@ pub struct Session<'a> {
 }
 
 impl<'a> Session<'a> {
-    /// Opens a session on its first song, stopped at 0, gain 1.0. The stores are [`WORDS`] words for each command of
-    /// the queue and of the capture, and two samples for each frame of the pool. A refused opening gives no session and
-    /// leaves them as they were.
+    /// Opens a session on its first song, as tono (see [`Mode`]), stopped at 0, gain 1.0. The stores are [`WORDS`] words
+    /// for each command of the queue and of the capture, and two samples for each frame of the pool. A refused opening
+    /// gives no session and leaves them as they were.
     ///
     /// ```
     /// use threshreed::{Refusal, Session, Song, WORDS};
@@ -119,8 +132,21 @@ impl<'a> Session<'a> {
         pool: &'a mut [f32],
         song: Song<'_>,
     ) -> Result<Self, Refusal> {
+        Session::open_in(Mode::default(), rate, queue, capture, pool, song)
+    }
+
+    /// Opens a session in a mode likewise.
+    pub fn open_in(
+        mode: Mode,
+        rate: u32,
+        queue: &'a mut [u64],
+        capture: &'a mut [u64],
+        pool: &'a mut [f32],
+        song: Song<'_>,
+    ) -> Result<Self, Refusal> {
         let settings = raw::Settings {
             rate,
+            mode: mode.number(),
             queue: queue.len() / WORDS,
             capture: capture.len() / WORDS,
             pool: (pool.len() / 2) as u64,
@@ -290,6 +316,11 @@ impl<'a> Session<'a> {
         let metered = raw::metrics(self.raw, self.queue, self.capture);
         Refusal::check(metered.refusal)?;
         Ok(metered.metrics)
+    }
+
+    /// As tono or house, as it was opened.
+    pub fn mode(&self) -> Mode {
+        Mode::of(self.raw.settings.mode)
     }
 
     /// The clock: frames rendered.

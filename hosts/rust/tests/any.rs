@@ -2,10 +2,10 @@
 
 mod common;
 
-use common::{ByHand, RATE};
+use common::{ByHand, PAIR, RATE};
 use threshreed::{
-    At, ClockFrame, Command, Handle, LoopRange, Refusal, Session, Snapshot, Song, SongFrame, State,
-    Stinger, Stores, raw,
+    At, ClockFrame, Command, Handle, LoopRange, Mode, Refusal, Session, Snapshot, Song, SongFrame,
+    State, Stinger, Stores, WORDS, raw,
 };
 
 /// The same throws every time.
@@ -28,6 +28,14 @@ impl Dice {
         match self.below(8) {
             0 => self.word(),
             _ => self.below(64),
+        }
+    }
+
+    /// Mostly a mode, now and then any number.
+    fn mode(&mut self) -> u32 {
+        match self.below(8) {
+            0 => self.count() as u32,
+            n => n as u32 % 2,
         }
     }
 
@@ -138,7 +146,9 @@ fn calls_with_any_arguments() {
     let mut seen = [false; 256];
     for _ in 0..50 {
         let mut stores = Stores::<6, 4, 64>::new();
-        let mut session = stores.open(RATE, Song::new(&[0.5; 8], RATE)).unwrap();
+        let mode = dice.of(&[Mode::AsTono, Mode::House]);
+        let song = Song::new(&[0.5; 8], RATE);
+        let mut session = stores.open_in(mode, RATE, song).unwrap();
         let mut handles = vec![session.song()];
         for _ in 0..400 {
             let number = match step(&mut session, &mut dice, &mut handles) {
@@ -149,6 +159,7 @@ fn calls_with_any_arguments() {
             assert_eq!(session.metrics().unwrap().rendered, session.clock().0);
             assert_eq!(session.snapshot().unwrap().state, session.state());
             assert!(session.is_live(session.song()));
+            assert_eq!(session.mode(), mode);
             assert!(session.loop_range().is_some() || session.laps() == 0);
         }
     }
@@ -159,6 +170,23 @@ fn calls_with_any_arguments() {
     assert_eq!(unseen, [1, 2, 4, 8, 9, 13, 17, 18, 21, 255]);
 }
 
+/// An opening in any mode: 0 and 1 are taken, any other is out of range.
+#[test]
+fn openings_in_any_mode() {
+    let mut dice = Dice(0xD134_2543_DE82_EF95);
+    for _ in 0..20_000 {
+        let settings = raw::Settings {
+            mode: dice.mode(),
+            ..ByHand::open().session.settings
+        };
+        let (queue, mut pool) = ([0; 2 * WORDS], [0.0; 8]);
+        let opened = raw::open(settings, &queue, &[], &mut pool, &PAIR, RATE, 1);
+        let taken = settings.mode < 2;
+        assert_eq!(opened.refusal, if taken { 0 } else { 7 });
+        assert_eq!(opened.session.settings == settings, taken);
+    }
+}
+
 /// A session with any word of it changed is refused or plays; the library touches nothing that it is not lent.
 #[test]
 fn sessions_changed_by_hand() {
@@ -167,6 +195,7 @@ fn sessions_changed_by_hand() {
     let mut refused = 0;
     for _ in 0..20_000 {
         let mut opened = ByHand::open();
+        opened.session.settings.mode = dice.mode();
         for _ in 0..1 + dice.below(3) {
             let place = dice.below(WHOLE as u64) as usize;
             let word = dice.count();

@@ -3,8 +3,8 @@
 use std::sync::Mutex;
 
 use threshreed::{
-    At, ClockFrame, Command, Handle, LoopRange, Metrics, Refusal, Report, Session, Snapshot, Song,
-    SongFrame, State, Stinger, Stores, WORDS,
+    At, ClockFrame, Command, Handle, LoopRange, Metrics, Mode, Refusal, Report, Session, Snapshot,
+    Song, SongFrame, State, Stinger, Stores, WORDS,
 };
 
 const RATE: u32 = 48_000;
@@ -62,6 +62,7 @@ fn bell(session: &mut Session, frames: usize, level: f32) -> Handle {
 fn opening_is_stopped_at_0_with_gain_1() {
     let mut stores = Small::new();
     let session = stores.open(RATE, Song::new(&numbered(4), RATE)).unwrap();
+    assert_eq!(session.mode(), Mode::AsTono);
     assert_eq!(session.clock(), ClockFrame(0));
     assert_eq!(session.position(), SongFrame(0));
     assert_eq!(session.state(), State::Stopped);

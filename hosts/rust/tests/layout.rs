@@ -36,7 +36,7 @@ macro_rules! asserts {
 #[test]
 fn the_header_asserts_the_layout_of_the_raw_types() {
     let expected = asserts! {
-        Settings { rate, queue, capture, pool }
+        Settings { rate, mode, queue, capture, pool }
         Handle { slot, serial }
         Ramp { value, target, step, remaining }
         Clip { serial, kind, extent, start, frames, rate }

@@ -63,6 +63,39 @@ fn opening() {
     assert_eq!(open(RATE, 5, 2, clip(&[0.5; 4])), Some(NoRoom));
 }
 
+/// An unknown mode is an opening number out of its range, which an opening weighs before all else.
+#[test]
+fn an_unknown_mode() {
+    let open = |mode, words, samples, song: Song| {
+        let settings = raw::Settings {
+            rate: RATE,
+            mode,
+            queue: 1,
+            capture: 0,
+            pool: 1,
+        };
+        let (queue, mut pool) = (vec![0; words], vec![9.0; samples]);
+        let (clip, length) = (song.samples, song.length.0);
+        let opened = raw::open(settings, &queue, &[], &mut pool, clip, song.rate, length);
+        assert!(opened.refusal == 0 || pool == vec![9.0; samples]);
+        opened.refusal
+    };
+    let clip = |samples| Song::new(samples, RATE);
+    for (number, words, samples, song) in [
+        (0, 5, 2, song()),
+        (1, 6, 2, song()),
+        (2, 5, 3, song()),
+        (3, 5, 2, clip(&[0.5; 3])),
+        (5, 5, 2, clip(&[])),
+        (6, 5, 2, clip(&[17.0; 2])),
+        (13, 5, 2, Song::new(&PAIR, 44_100)),
+        (10, 5, 2, clip(&[0.5; 4])),
+    ] {
+        let answers = [0, 1, 2, u32::MAX].map(|mode| open(mode, words, samples, song));
+        assert_eq!(answers, [number, number, 7, 7]);
+    }
+}
+
 #[test]
 fn opening_again() {
     let mut stores = Small::new();
@@ -212,6 +245,14 @@ fn captures_and_replays() {
     assert_eq!(session.replay(list.as_flattened()), Ok(expected));
 }
 
+/// The refusal and the session of each answer.
+macro_rules! answers {
+    ($($call:expr),* $(,)?) => {[$({
+        let answered = $call;
+        (answered.refusal, answered.session)
+    }),*]};
+}
+
 impl ByHand {
     /// Opens a session and changes it.
     fn with(change: impl FnOnce(&mut raw::Session)) -> ByHand {
@@ -230,6 +271,38 @@ impl ByHand {
             assert_eq!(out, [9.0; 2]);
         }
         answered.refusal
+    }
+
+    /// Each call but the opening, of this session; the clip is one to retire.
+    fn every_call(&mut self, clip: raw::Handle) -> [(u32, raw::Session); 11] {
+        let (s, q, c, p) = (
+            self.session,
+            &mut self.queue,
+            &mut self.capture,
+            &mut self.pool,
+        );
+        let play = raw::Command {
+            kind: 1,
+            gain: f32::NAN,
+            clip,
+            frame: 0,
+            end: 0,
+        };
+        let now = raw::At { kind: 1, frame: 0 };
+        let snapped = raw::snapshot(s, q, c);
+        answers![
+            raw::load(s, q, c, p, &PAIR, 1, 1, RATE),
+            raw::retire(s, q, c, clip),
+            raw::submit(s, q, c, play, now),
+            raw::transition(s, q, c, 0, now),
+            raw::replay(s, q, c, &[]),
+            raw::block(s, q, c, p, &mut [9.0; 2]),
+            raw::start_capture(s, q, c),
+            raw::stop_capture(s, q, c, &mut []),
+            snapped,
+            raw::apply_snapshot(s, q, c, snapped.snapshot),
+            raw::metrics(s, q, c),
+        ]
     }
 
     fn load(&mut self, kind: u32) -> u32 {
@@ -299,7 +372,9 @@ fn what_is_spent() {
 
 #[test]
 fn a_session_that_is_not_well_formed() {
-    let changes: [fn(&mut raw::Session); 6] = [
+    let changes: [fn(&mut raw::Session); 8] = [
+        |s| s.settings.mode = 2,
+        |s| s.settings.mode = u32::MAX,
         |s| s.state = 3,
         |s| s.looped.set = 2,
         |s| s.capturing = 2,
@@ -308,7 +383,12 @@ fn a_session_that_is_not_well_formed() {
         |s| s.queued = usize::MAX,
     ];
     for change in changes {
-        assert_eq!(ByHand::with(change).frame(), NotWellFormed.number());
+        let mut opened = ByHand::with(change);
+        assert_eq!(opened.frame(), NotWellFormed.number());
+        let (session, queue, pool) = (opened.session, opened.queue, opened.pool);
+        let refused = [(NotWellFormed.number(), session); 11];
+        assert_eq!(opened.every_call(session.song), refused);
+        assert_eq!((opened.queue, opened.pool), (queue, pool));
     }
 }
 
@@ -326,20 +406,12 @@ fn a_session_with_a_senseless_loop() {
 /// Nothing of an unused slot is looked at, its kind as little as the rest.
 #[test]
 fn unused_slots_that_hold_anything() {
-    let opened = ByHand::open();
-    let (mut q, c, mut p) = (opened.queue, opened.capture, opened.pool);
-    let loaded = raw::load(opened.session, &q, &c, &mut p, &PAIR, 2, 0, RATE);
-    let play = raw::Command {
-        kind: 1,
-        gain: f32::NAN,
-        clip: loaded.handle,
-        frame: 0,
-        end: 0,
-    };
-    let now = raw::At { kind: 1, frame: 0 };
+    let mut opened = ByHand::open();
+    let (q, c, p) = (&opened.queue, &opened.capture, &mut opened.pool);
+    let loaded = raw::load(opened.session, q, c, p, &PAIR, 2, 0, RATE);
     for kind in [0, 1, 2, 3, u32::MAX] {
-        let mut s = loaded.session;
-        for clip in &mut s.clips[2..] {
+        opened.session = loaded.session;
+        for clip in &mut opened.session.clips[2..] {
             // The song's serial and room, a length below its frames, no rate.
             *clip = raw::Clip {
                 serial: 1,
@@ -350,21 +422,8 @@ fn unused_slots_that_hold_anything() {
                 rate: 0,
             };
         }
-        let snapped = raw::snapshot(s, &q, &c);
-        let refusals = [
-            raw::load(s, &q, &c, &mut p, &PAIR, 1, 1, RATE).refusal,
-            raw::retire(s, &q, &c, loaded.handle).refusal,
-            raw::submit(s, &mut q, &mut [], play, now).refusal,
-            raw::transition(s, &mut q, &mut [], 0, now).refusal,
-            raw::replay(s, &mut q, &c, &[]).refusal,
-            raw::block(s, &q, &c, &p, &mut [9.0; 2]).refusal,
-            raw::start_capture(s, &q, &c).refusal,
-            raw::stop_capture(s, &q, &c, &mut []).refusal,
-            snapped.refusal,
-            raw::apply_snapshot(s, &q, &c, snapped.snapshot).refusal,
-            raw::metrics(s, &q, &c).refusal,
-        ];
-        assert_eq!(refusals, [0; 11], "kind {kind}");
+        let answers = opened.every_call(loaded.handle);
+        assert_eq!(answers.map(|x| x.0), [0; 11], "kind {kind}");
     }
 }
 

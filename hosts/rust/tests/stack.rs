@@ -4,7 +4,7 @@ use std::sync::Mutex;
 use std::thread;
 
 use threshreed::{
-    At, ClockFrame, Command, LoopRange, Refusal, Song, SongFrame, Stinger, Stores, WORDS,
+    At, ClockFrame, Command, LoopRange, Mode, Refusal, Song, SongFrame, Stinger, Stores, WORDS,
 };
 
 const RATE: u32 = 48_000;
@@ -13,9 +13,9 @@ static STORES: Mutex<Stores<64, 64, 1_024>> = Mutex::new(Stores::new());
 static CLIP: [f32; 512] = [0.25; 512];
 
 /// A session with a command of every kind, as many voices as there can be, a tail and a capture.
-fn every_call() -> Result<(), Refusal> {
+fn every_call(mode: Mode) -> Result<(), Refusal> {
     let mut stores = STORES.lock().unwrap();
-    let mut session = stores.open(RATE, Song::new(&CLIP, RATE))?;
+    let mut session = stores.open_in(mode, RATE, Song::new(&CLIP, RATE))?;
     let hall = session.load_song(Song::new(&CLIP, RATE))?;
     let stinger = Stinger {
         samples: &CLIP,
@@ -61,7 +61,9 @@ fn every_call() -> Result<(), Refusal> {
 
 #[test]
 fn a_small_stack_is_enough() {
-    let small = thread::Builder::new().stack_size(64 * 1024);
-    let called = small.spawn(every_call).unwrap();
-    assert_eq!(called.join().unwrap(), Ok(()));
+    for mode in [Mode::AsTono, Mode::House] {
+        let small = thread::Builder::new().stack_size(64 * 1024);
+        let called = small.spawn(move || every_call(mode)).unwrap();
+        assert_eq!(called.join().unwrap(), Ok(()));
+    }
 }

@@ -20,6 +20,7 @@ impl ByHand {
         let (queue, capture, mut pool) = ([0; 2 * WORDS], [], [0.0; 8]);
         let settings = raw::Settings {
             rate: RATE,
+            mode: 0,
             queue: 2,
             capture: 0,
             pool: 4,

@@ -1,0 +1,125 @@
+//! A swap's tail in both modes, sample by sample beside plain arithmetic.
+
+use threshreed::{At, ClockFrame, Command, Mode, Snapshot, Song, Stinger, Stores};
+
+const RATE: u32 = 48_000;
+
+/// More frames than a tail has.
+const FRAMES: usize = 1_200;
+
+/// Where the master turns to another gain.
+const TURN: usize = 300;
+
+/// From a gain to a gain; the first ones rest. Some round every product, one silences the song.
+const MASTERS: [(f32, f32); 8] = [
+    (1.0, 1.0),
+    (0.25, 0.25),
+    (0.3, 0.3),
+    (0.0, 0.0),
+    (1.7, 1.7),
+    (1.0, 0.25),
+    (0.3, 1.1),
+    (2.0, 0.0),
+];
+
+/// A clip whose samples have no pattern.
+fn noise(seed: u32) -> Vec<f32> {
+    let mut word = seed;
+    let sample = |_| {
+        word = word.wrapping_mul(1_664_525).wrapping_add(1_013_904_223);
+        (word >> 8) as f32 / 16_777_216.0 - 0.5
+    };
+    (0..2 * FRAMES).map(sample).collect()
+}
+
+/// What blocks of these lengths sound as: from the first frame on a swap, and a bell over it.
+fn heard(mode: Mode, (from, to): (f32, f32), lengths: &[usize]) -> Vec<u32> {
+    let mut stores = Stores::<8, 0, { 3 * FRAMES }>::new();
+    let room = noise(1);
+    let mut session = stores.open_in(mode, RATE, Song::new(&room, RATE)).unwrap();
+    assert_eq!(session.mode(), mode);
+    let hall = session.load_song(Song::new(&noise(2), RATE)).unwrap();
+    let bell = Stinger {
+        samples: &noise(3),
+        rate: RATE,
+    };
+    let bell = session.load_stinger(bell).unwrap();
+    let opened = session.snapshot().unwrap();
+    let resting = Snapshot {
+        gain: from,
+        ..opened
+    };
+    session.apply_snapshot(resting).unwrap();
+    for command in [Command::Swap(hall), Command::Stinger(bell, 1.0)] {
+        session.submit(command, At::Immediate).unwrap();
+    }
+    if to != from {
+        let turn = At::Frame(ClockFrame(TURN as u64));
+        session.submit(Command::Gain(to), turn).unwrap();
+    }
+    let block = |&frames: &usize| {
+        let mut out = vec![9.0; 2 * frames];
+        session.block(&mut out).unwrap();
+        out
+    };
+    lengths.iter().flat_map(block).map(f32::to_bits).collect()
+}
+
+/// The same by the rules: song × g, plus the tail's share, plus the bell.
+fn expected((from, to): (f32, f32), share: fn(f32, f32, f32) -> f32) -> Vec<u32> {
+    let (room, hall, bell) = (noise(1), noise(2), noise(3));
+    let step = (to - from) / 256.0;
+    let mut g = from;
+    let mut samples = Vec::new();
+    for frame in 0..FRAMES {
+        g = match frame {
+            ..TURN => from,
+            _ if frame < TURN + 255 => g + step,
+            _ => to,
+        };
+        let w = 1_023usize.saturating_sub(frame) as f32 / 1_024.0;
+        for place in [2 * frame, 2 * frame + 1] {
+            let sample = (hall[place] * g + share(room[place], g, w)) + bell[place];
+            samples.push(sample.to_bits());
+        }
+    }
+    samples
+}
+
+#[test]
+fn as_tono_the_tail_ignores_the_master() {
+    for master in MASTERS {
+        let expected = expected(master, |tail, _, w| tail * w);
+        assert_eq!(heard(Mode::AsTono, master, &[FRAMES]), expected);
+    }
+}
+
+#[test]
+fn in_house_mode_the_tail_is_under_the_master() {
+    for master in MASTERS {
+        let expected = expected(master, |tail, g, w| (tail * g) * w);
+        assert_eq!(heard(Mode::House, master, &[FRAMES]), expected);
+    }
+}
+
+/// What the test above would see: the product in another order.
+#[test]
+fn the_order_of_the_product_is_heard() {
+    for master in [(0.3, 0.3), (1.7, 1.7), (1.0, 0.25), (0.3, 1.1)] {
+        let house = expected(master, |tail, g, w| (tail * g) * w);
+        assert_ne!(expected(master, |tail, g, w| (tail * w) * g), house);
+        assert_ne!(expected(master, |tail, g, w| tail * (g * w)), house);
+    }
+}
+
+#[test]
+fn blocks_of_any_length_make_the_same_sound() {
+    for mode in [Mode::AsTono, Mode::House] {
+        for master in MASTERS {
+            let whole = heard(mode, master, &[FRAMES]);
+            let pieces = [TURN, 0, 7, FRAMES - TURN - 7];
+            assert_eq!(heard(mode, master, &pieces), whole);
+            assert_eq!(heard(mode, master, &[1; FRAMES]), whole);
+        }
+    }
+}
