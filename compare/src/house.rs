@@ -1,5 +1,5 @@
-//! The same session in house mode, on our side alone. It is played every call of the session as tono, and answers and
-//! stands as that does, but for the samples of a tail under a master that is not at 1.0.
+//! The same session in house mode, on our side alone. It gets every call of the session as tono, and answers and stands
+//! as that does, but for the samples of a tail under a master that is not at 1.0.
 
 use threshreed::raw::{Ramp, Session, Settings};
 
