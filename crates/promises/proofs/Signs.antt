@@ -1,21 +1,21 @@
 -- A sum whose last term is not -0.0 is not -0.0, where both terms are binary32. Assumes nothing.
 use mathlib.Core.Path.{_≡_, refl, sym, ap, _∙_, subst}
 use mathlib.Core.Logic.{_⊎_, inl, inr}
-use mathlib.Core.Bool.{Bool, true, false, _&&_, cond, Bool·beq}
+use mathlib.Core.Bool.{Bool, true, false, cond, Bool·beq}
 use mathlib.Core.List.{List, [], _∷_, _++_}
-use Prim.Native.Nat.{ℕ, zero, suc, _+_, _-_, _*_, _%_, _^_, _≤_, _<_}
+use Prim.Native.Nat.{ℕ, zero, suc, _+_, _-_, _*_, _^_, _≤_, _<_}
 use native.Mathlib.Omega.{arith}
 use native.Mathlib.Nat.{mul-pos, mul-assoc, mul-comm, mul-right-comm, mul-one, one-mul, zero-mul, suc-mul, add-mul, mul-sub}
-use borrow.Author.Tests.{ltb-true, leb-true}
+use borrow.Author.Tests.{ltb-true}
 use lib.IntN.{ℤ, pos, negsuc}
-use lib.Dec.{T, leb, ltb, eqb}
-use lib.Pow.{pow-pos, pow-lt, pow-add}
+use lib.Dec.{T, ltb}
+use lib.Pow.{pow-pos, pow-lt}
 use lib.Ieee.{Float, nan, inf, fin, Format, binary32, low, up, down, odd, units, round, sum, add, mul, fits}
-use lib.Ieee.Fits.{up-pos, down-pos, and-l, and-r, add-fits, mul-fits}
+use lib.Ieee.Fits.{up-pos, down-pos, add-fits, mul-fits}
 use lib.Ieee.Exact.{round-exact}
 use lib.Ieee.Order.{round-mono}
 use lib.Ieee.Positive.{positive, above, above-of-le, positive-of-value}
-use Rattle.counts.proofs.Truth.{never, is-T, lt-or-le}
+use Rattle.counts.proofs.Truth.{never}
 use Rattle.laws.specs.Block.{Machine, At, block as blockFrom}
 use Rattle.laws.specs.Queue.{Each}
 use Rattle.laws.proofs.Stepwise.{block-stepwise}
