@@ -25,7 +25,7 @@ module _ (house : Bool) (pool : List Float) (s t : Part) where
       Moving (stillBoth house pool s t from a w₀) w₀ from to os (set o' (j * 2 + 1) (add binary32 (add binary32 (mul binary32 z a) (mul binary32 v (w' .value))) (getD o' (j * 2 + 1) nan))) w' (j + 1)
   still-turn from to a w₀ os {o} {w} {j} m h x y z v ex ey ez ev w' e =
       let f : ℕ → Float → Float = stillBoth house pool s t from a w₀ in
-      rw (frame-left j, frame-right j, ← moving-gain f w₀ from to os m w' e, ← ex, ← ey, ← ez, ← ev) at (moving-turn f w₀ from to os m h w' e)
+      rw (ex, ey, ez, ev) (rw (frame-left j, frame-right j, ← moving-gain f w₀ from to os m w' e) at (moving-turn f w₀ from to os m h w' e))
 
   module _ (g₀ w₀ : Ramp) (n : ℕ) (os : List Float) where
     -- j of n frames are passed, and both ramps have ticked in each
