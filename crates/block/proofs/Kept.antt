@@ -7,9 +7,9 @@ use native.Mathlib.Omega.{arith}
 use lib.ListN.{length, length-append}
 use lib.Ieee.{Float}
 use borrow.Author.Tests.{ltb-false}
-use Rattle.laws.specs.Block.{At, Ran, Machine, stand, still, after, executing, framing, run}
+use Rattle.laws.specs.Block.{At, Ran, Machine, stand, still, after, executing, framing, drain, run}
 use Rattle.laws.proofs.Clock.{run-clock, block-length}
-use Rattle.laws.proofs.Stepwise.{Stepwise, run-keeps, block-stepwise}
+use Rattle.laws.proofs.Stepwise.{Commandwise, Stepwise, drain-commandwise, run-keeps, block-stepwise}
 use Rattle.timeline.specs.declared.QueueRecord.{QueueRecord}
 use Rattle.timeline.specs.Record.{recordOf}
 use Rattle.timeline.specs.Store.{rowAt}
@@ -105,13 +105,59 @@ module _ (s : Session) (q c : List ℕ) where
     steps = record { commands = record { stays = stays; joins = joins; executes = λ d x l e. executes d x l }; frames = frames }
 
     module _ (w : wellFormed s q c ≡ true) (places : length (s .stage .sound .voices .table) ≡ 16) where
+      abbrev start : At Stage QueueRecord
+      start = stand (s .stage) (queue q (s .queued))
+
+      starts : Standing (s .queued) start
+      starts = record { queued = refl; formed = w; places = places }
+
       -- n frames within clock 2^62: the session stands well formed, some of its records still queued, the clock n further
-      pub block-came : (n : ℕ) → s .stage .clock .0 + n ≤ 2 ^ 62 → Came (s .queued) (stand (s .stage) (queue q (s .queued))) (ranOf s q pool n)
+      pub block-came : (n : ℕ) → s .stage .clock .0 + n ≤ 2 ^ 62 → Came (s .queued) start (ranOf s q pool n)
       unfolding ranOf
-      block-came n h =
-          let x : At Stage QueueRecord = stand (s .stage) (queue q (s .queued)) in
-          block-stepwise machine Comes steps n x (s .queued) (record { queued = refl; formed = w; places = places })
-          (rw (block-length machine n x) h)
+      block-came n h = block-stepwise machine Comes steps n start (s .queued) starts (rw (block-length machine n start) h)
+
+      -- what each frame and each command keeps of a stage of the well formed session,
+      module _ (P : Stage → Type 0)
+          (next : (k : ℕ) (x : Stage) → wellFormed (withStage s x k) q c ≡ true → P x → P (machine .next x))
+          (exec : (k : ℕ) (d : QueueRecord) (x : Stage) → wellFormed (withStage s x k) q c ≡ true → P x → P (machine .exec d x)) where
+        -- the commands that are due keep,
+        abbrev Drained : At Stage QueueRecord → Ran Stage QueueRecord FrameMade Told → Type 0
+        Drained x r = (k : ℕ) → Standing k x → P (x .core) → (left : ℕ) × Standing left (r .at) × P (r .at .core)
+
+        drained : (d : QueueRecord) (x : Stage) (l : List QueueRecord) → Drained (stand x (d ∷ l)) (executing machine d x l)
+        drained d x l zero p v = absurd (omega (arith, ap length (p .queued)))
+        drained d x l (suc k) p v = (k, executed k d x l p, exec (suc k) d x (p .formed) v)
+
+        drains : Commandwise machine Drained
+        drains = record { stays = λ x k p v. (k, p, v); joins = λ x r t a b k p v. let y = a k p v in b (y .0) (y .1) (y .2); executes = λ d x l e. drained d x l }
+
+        pub drain-holds : P (s .stage) → P (drain machine (s .stage) (queue q (s .queued)) .at .core)
+        drain-holds v = drain-commandwise machine Drained drains (s .stage) (queue q (s .queued)) (s .queued) starts v .2
+
+        -- and so does a block
+        abbrev Holds : At Stage QueueRecord → Ran Stage QueueRecord FrameMade Told → Type 0
+        Holds x r = Comes x r × ((k : ℕ) → Standing k x → x .core .clock .0 + length (r .made) ≤ 2 ^ 62 → P (x .core) → P (r .at .core))
+
+        holds-on : (x : At Stage QueueRecord) (r t : Ran Stage QueueRecord FrameMade Told) → Holds x r → Holds (r .at) t → Holds x (after r t)
+        holds-on x r t a b = (
+          joins x r t (a .0) (b .0),
+          λ k p h v.
+              let l = length-append (r .made) (t .made) in
+              let y = a .0 k p (omega arith) in
+              b .1 (y .left) (y .stands) (omega (arith, y .clock)) (a .1 k p (omega arith) v),
+        )
+
+        holds : Stepwise machine Holds
+        holds =
+            record {
+              commands =
+                  record { stays = λ x. (stays x, λ k p h v. v); joins = holds-on; executes = λ d x l e. (executes d x l, λ k p h v. exec k d x (p .formed) v) };
+              frames = λ x l. (frames x l, λ k p h v. next k x (p .formed) v);
+            }
+
+        pub block-holds : (n : ℕ) → s .stage .clock .0 + n ≤ 2 ^ 62 → P (s .stage) → P (ranOf s q pool n .at .core)
+        unfolding ranOf
+        block-holds n h = block-stepwise machine Holds holds n start .1 (s .queued) starts (rw (block-length machine n start) h)
 
       -- a block of n frames leaves the session well formed
       pub block-keeps : (n : ℕ) → s .stage .clock .0 + n ≤ 2 ^ 62 → wellFormed (blockDone s (ranOf s q pool n) .0 .session) q c ≡ true

@@ -20,10 +20,12 @@ use Rattle.bank.specs.Recording.{View, viewOf}
 use Rattle.stage.specs.declared.Settings.{Settings}
 use Rattle.stage.specs.declared.Playhead.{Playhead}
 use Rattle.stage.specs.declared.Stage.{Stage}
+use Rattle.stage.specs.Mode.{isHouse}
 use Rattle.stage.specs.Playhead.{movedOf, playheadBy}
 use Rattle.stage.specs.Stage.{frameOf, executeOf}
 use Rattle.stage.specs.Machine.{Told, FrameMade, machineOf, passesOf}
 use Rattle.stage.proofs.Passes.{passes-append}
+use Rattle.session.specs.Session.{extentNow}
 use Rattle.session.specs.Reading.{lapsOf}
 use Rattle.block.specs.declared.BlockAnswered.{BlockAnswered}
 use Rattle.block.specs.Block.{ranOf, reported}
@@ -55,11 +57,14 @@ exec-counted extent (Command.Stinger k g) p h = h
 reached-counted : (x : State) → Reached x → Counted (x .session .stage)
 unfolding frameOf movedOf executeOf
 reached-counted =
-    reached-has Counted
-    (λ h. record { none = λ e. refl; low = omega arith })
-    (λ x view s. step-counts (view (s .playhead .song) .frames) (view (s .playhead .song) .extent) (s .playhead .transport))
-    (λ x extent c s. exec-counted extent c (s .playhead))
-    (λ extent y s h. let l = loop-counts extent (y .looped) (s .playhead .transport) h in record { none = l .none; low = l .low })
+    reached-has (λ x b. Counted)
+    (record {
+      opens = λ x b h. record { none = λ e. refl; low = omega arith };
+      frames = λ s q c pool w. step-counts (isHouse (s .settings)) _ _ (s .stage .playhead .transport);
+      execs = λ s q c d w. exec-counted (extentNow s) d (s .stage .playhead);
+      applies = λ s y h. let l = loop-counts (extentNow s) (y .looped) (s .stage .playhead .transport) h in record { none = l .none; low = l .low };
+      banks = λ x y g d h. h;
+    })
 
 -- ---- over a block
 
@@ -108,7 +113,7 @@ module _ (x : Settings) (view : View) where
 
   frames : (c : Stage) (q : List QueueRecord) → Rises (stand c q) (framing machine c q)
   unfolding frameOf movedOf
-  frames c q low e = omega (arith, step-laps (view (c .playhead .song) .frames) (view (c .playhead .song) .extent) (c .playhead .transport))
+  frames c q low e = omega (arith, step-laps (isHouse x) (view (c .playhead .song) .frames) (view (c .playhead .song) .extent) (c .playhead .transport))
 
   steps : Stepwise machine Rises
   steps = record { commands = record { stays = λ a low e. omega arith; joins = joins; executes = λ d c q due. executes d c q }; frames = frames }

@@ -7,6 +7,7 @@ pub mod Kept
 pub mod Declick
 mod Magnitude
 pub mod Modes
+pub mod Together
 pub mod Never
 pub mod Exchanged
 mod Fine

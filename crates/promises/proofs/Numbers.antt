@@ -36,7 +36,7 @@ numbers =
     record {
       declick = (refl, refl, refl);
       deadlines = (refl, refl, refl, refl, refl);
-      wraps = (refl, refl);
+      wraps = (refl, refl, refl, refl);
       commands = (refl, refl, refl, refl, refl, refl);
       song = (refl, refl, refl);
       gain = (refl, refl);

@@ -7,7 +7,9 @@ use Rattle.ramp.specs.declared.Ramp.{Ramp}
 use Rattle.ramp.specs.Ramp.{tickOf}
 use Rattle.ramp.specs.Tail.{tailStart, ticks}
 use Rattle.ramp.proofs.Left.{weighs, weight}
+use Rattle.bank.specs.Recording.{viewOf}
 use Rattle.stage.proofs.Keeps.{OfTail, frame-tail, exec-tail}
+use Rattle.session.specs.Session.{extentNow}
 use Rattle.promises.specs.Calls.{State, Reached}
 use Rattle.promises.specs.Tail.{Weighs, TailWeighs}
 use Rattle.promises.proofs.Stages.{reached-has}
@@ -49,11 +51,14 @@ goes-on w stays p =
 -- opening has no tail, a block's frames tick it and its Swaps begin it anew
 reached-weighed : (x : State) → Reached x → OfTail (λ h w. Weighs w) (x .session .stage .sound .fade .tail)
 reached-weighed =
-    reached-has (λ s. OfTail (λ h w. Weighs w) (s .sound .fade .tail))
-    (λ h. tt)
-    (λ x view s. frame-tail x view s (λ h w. Weighs w) (λ h w. goes-on w))
-    (λ x extent c s. exec-tail x extent c s (λ h w. Weighs w) begins)
-    (λ extent y s p. p)
+    reached-has (λ x b s. OfTail (λ h w. Weighs w) (s .sound .fade .tail))
+    (record {
+      opens = λ x b h. tt;
+      frames = λ s q c pool w. frame-tail (s .settings) (viewOf pool (s .bank)) (s .stage) (λ h w. Weighs w) (λ h w. goes-on w);
+      execs = λ s q c d w. exec-tail (s .settings) (extentNow s) d (s .stage) (λ h w. Weighs w) begins;
+      applies = λ s y p. p;
+      banks = λ x y g d p. p;
+    })
 
 -- in a session reached from opening the tail's weight after k ticks is exactly (1024 - k)/1024 and never outside 0..1
 pub tail-weighs : TailWeighs

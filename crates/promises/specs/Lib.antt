@@ -4,6 +4,7 @@ pub mod Declick
 pub mod Tail
 pub mod Laps
 pub mod Modes
+pub mod Together
 pub mod Kept
 pub mod Exchanged
 pub mod Refused

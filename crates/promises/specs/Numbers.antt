@@ -63,15 +63,19 @@ Deadlines =
     × (dueOf 100 looped 79 ≡ clock 500)
     × (dueOf 120 looped 90 ≡ clock 500)
 
--- ---- loop 10..14: position 27 goes to 11, cursor 10; position 14 goes to 10
+-- ---- loop 10..14: position 27 goes to 11, cursor 10 as tono and 11 in house mode; position 14 goes to 10
 
 -- Playing in that loop, at position p and cursor c
 abbrev pub inLoop : ℕ → ℕ → Transport
 inLoop p c = transport TransportState.Playing p c (LoopRange.Range (frame 10) (frame 14)) 0
 
--- rule a
+-- rule a, as tono and in house mode
 abbrev pub Wraps : Type 0
-Wraps = (wrapOf (inLoop 27 27) ≡ inLoop 11 10) × (wrapOf (inLoop 14 14) ≡ inLoop 10 10)
+Wraps =
+    (wrapOf false (inLoop 27 27) ≡ inLoop 11 10)
+    × (wrapOf true (inLoop 27 27) ≡ inLoop 11 11)
+    × (wrapOf false (inLoop 14 14) ≡ inLoop 10 10)
+    × (wrapOf true (inLoop 14 14) ≡ inLoop 10 10)
 
 -- ---- two commands at 8, clock 0: a block of 8 executes one, of 0 none, then of 1 the other first. A block of 9 executes both
 

@@ -14,6 +14,7 @@ use Rattle.transport.proofs.Passes.{few}
 use Rattle.bank.specs.declared.Clip.{Clip}
 use Rattle.bank.specs.Recording.{Recording, recordingOf}
 use Rattle.stage.specs.declared.Settings.{Settings}
+use Rattle.stage.specs.Mode.{isHouse}
 use Rattle.stage.specs.Playhead.{movedOf}
 use Rattle.runs.specs.declared.Core.{Core}
 use Rattle.runs.specs.Core.{coreOn, corePasses, coreAfter, passesIn, coreAdds, CoreReady}
@@ -51,7 +52,7 @@ module _ (x : Settings) (s t : Recording) where
   pub passes-few : (n : ℕ) (c : Core) → passesIn x s t n c ≤ n * 2
   unfolding passesIn movedOf
   passes-few zero c = omega arith
-  passes-few (suc n) c = omega (arith, passes-few n c, few (s .frames) (s .extent) (coreAfter x s t n c .playhead .transport))
+  passes-few (suc n) c = omega (arith, passes-few n c, few (isHouse x) (s .frames) (s .extent) (coreAfter x s t n c .playhead .transport))
 
   -- a frame keeps the song
   pub after-song : (n : ℕ) (c : Core) → coreAfter x s t n c .playhead .song ≡ c .playhead .song
@@ -62,7 +63,7 @@ module _ (x : Settings) (s t : Recording) where
   after-fits : (n : ℕ) (c : Core) → transportFits (s .extent) (c .playhead .transport) ≡ true → transportFits (s .extent) (coreAfter x s t n c .playhead .transport) ≡ true
   unfolding coreAfter coreOn movedOf
   after-fits zero c h = h
-  after-fits (suc n) c h = step-fits (s .frames) (s .extent) (coreAfter x s t n c .playhead .transport) (after-fits n c h)
+  after-fits (suc n) c h = step-fits (isHouse x) (s .frames) (s .extent) (coreAfter x s t n c .playhead .transport) (after-fits n c h)
 
 -- a core stays ready
 pub after-ready : (x : Settings) (pool : List Float) (song clip : Clip) (c : Core) (n : ℕ) → CoreReady (length pool) song clip c

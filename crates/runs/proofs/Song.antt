@@ -19,6 +19,7 @@ use Rattle.oneshot.specs.Heard.{sampleAt}
 use Rattle.oneshot.specs.Pair.{pair, silence, pairAt}
 use Rattle.stage.specs.declared.Settings.{Settings}
 use Rattle.stage.specs.declared.Playhead.{Playhead}
+use Rattle.stage.specs.Mode.{isHouse}
 use Rattle.stage.specs.Playhead.{playhead, movedOf}
 use Rattle.stage.specs.Sound.{playedOf}
 use Rattle.runs.specs.Run.{cursorBy, transportBy, Inside, Steady}
@@ -70,25 +71,25 @@ no-lap : (k : ℕ) → k < 2 ^ 64 → min (k + 0) (2 ^ 64 - 1) ≡ k
 no-lap k h = omega arith
 
 -- the transport's step
-step-parts : (st : TransportState) (p c k : ℕ) (l : LoopRange) (frames extent n j : ℕ) → Steady frames extent n (transport st p c l k) → j < n
-    → stepOf frames extent (transportBy frames j (transport st p c l k)) ≡ stepped frames j (transport st p c l k)
+step-parts : (house : Bool) (st : TransportState) (p c k : ℕ) (l : LoopRange) (frames extent n j : ℕ) → Steady frames extent n (transport st p c l k) → j < n
+    → stepOf house frames extent (transportBy frames j (transport st p c l k)) ≡ stepped frames j (transport st p c l k)
 unfolding stepOf wrapOf advanceOf isPast comesRound
-step-parts TransportState.Stopped p c k l frames extent n j h lt = rw (no-lap k (h .laps)) refl
-step-parts TransportState.Paused p c k l frames extent n j h lt = rw (no-lap k (h .laps)) refl
-step-parts TransportState.Playing p c k LoopRange.Off frames extent n j h lt =
+step-parts house TransportState.Stopped p c k l frames extent n j h lt = rw (no-lap k (h .laps)) refl
+step-parts house TransportState.Paused p c k l frames extent n j h lt = rw (no-lap k (h .laps)) refl
+step-parts house TransportState.Playing p c k LoopRange.Off frames extent n j h lt =
     let a : p + n < extent = h .end refl in
     let q : leb extent (p + j + 1) ≡ false = lt-leb extent (p + j + 1) (omega arith) in
     let r : p + j + 1 ≡ p + (j + 1) = omega arith in
     rw (q, r, cursor-frame frames c n j (h .inside refl) lt, no-lap k (h .laps)) refl
-step-parts TransportState.Playing p c k (LoopRange.Range s e) frames extent n j h lt =
+step-parts house TransportState.Playing p c k (LoopRange.Range s e) frames extent n j h lt =
     let a : p + n < e .0 = h .end refl in
     let o : leb (e .0) (p + j) ≡ false = lt-leb (e .0) (p + j) (omega arith) in
     let q : leb (e .0) (p + j + 1) ≡ false = lt-leb (e .0) (p + j + 1) (omega arith) in
     let r : p + j + 1 ≡ p + (j + 1) = omega arith in
     rw (o, q, r, cursor-frame frames c n j (h .inside refl) lt, no-lap k (h .laps)) refl
 
-pub step-frame : (t : Transport) (frames extent n j : ℕ) → Steady frames extent n t → j < n → stepOf frames extent (transportBy frames j t) ≡ stepped frames j t
-step-frame t frames extent n j h lt = step-parts (t .state) (t .position .0) (t .cursor .0) (t .laps) (t .looped) frames extent n j h lt
+pub step-frame : (house : Bool) (t : Transport) (frames extent n j : ℕ) → Steady frames extent n t → j < n → stepOf house frames extent (transportBy frames j t) ≡ stepped frames j t
+step-frame house t frames extent n j h lt = step-parts house (t .state) (t .position .0) (t .cursor .0) (t .laps) (t .looped) frames extent n j h lt
 
 -- the song, if it plays
 abbrev pub songShare : Recording → Transport → ℕ → Float
@@ -99,7 +100,7 @@ pub moved-frame : (x : Settings) (p : Playhead) (frames extent n j : ℕ) → St
     → movedOf x frames extent (playhead (transportBy frames j (p .transport)) (p .song))
     ≡ record { playhead = playhead (transportBy frames (j + 1) (p .transport)) (p .song); playing = isPlaying (p .transport .state); cursor = readAt frames j (p .transport); passes = 0 }
 unfolding movedOf
-moved-frame x p frames extent n j h lt = rw (step-frame (p .transport) frames extent n j h lt) refl
+moved-frame x p frames extent n j h lt = rw (step-frame (isHouse x) (p .transport) frames extent n j h lt) refl
 
 -- and what it gives
 pub played-frame : (r : Recording) → Ends r → (q : Playhead) (t : Transport) (j : ℕ)

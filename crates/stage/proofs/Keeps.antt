@@ -34,6 +34,7 @@ use Rattle.stage.specs.declared.Tail.{Tail}
 use Rattle.stage.specs.declared.Sound.{Sound}
 use Rattle.stage.specs.declared.Counters.{Counters}
 use Rattle.stage.specs.declared.Stage.{Stage}
+use Rattle.stage.specs.Mode.{isHouse}
 use Rattle.stage.specs.Playhead.{movedOf, playheadBy}
 use Rattle.stage.specs.Sound.{sound, clampOf, masterFrames, tailFrom, tailOn, renderedOf, soundBy}
 use Rattle.stage.specs.Counters.{countersBy}
@@ -82,7 +83,7 @@ module _ (x : Settings) (view : View) (s : Stage) where
   pub frame-fits : transportFits (view (s .playhead .song) .extent) (s .playhead .transport) ≡ true
       → transportFits (view (s .playhead .song) .extent) (frameOf x view s .stage .playhead .transport) ≡ true
   unfolding frameOf movedOf
-  frame-fits = step-fits (view (s .playhead .song) .frames) (view (s .playhead .song) .extent) (s .playhead .transport)
+  frame-fits = step-fits (isHouse x) (view (s .playhead .song) .frames) (view (s .playhead .song) .extent) (s .playhead .transport)
 
   -- a frame keeps the master in its ranges
   pub frame-master : MasterFits (s .sound .master) → MasterFits (frameOf x view s .stage .sound .master)

@@ -1,4 +1,4 @@
-mod Past
+pub mod Past
 pub mod Clock
 pub mod Clamped
 pub mod Keeps

@@ -7,6 +7,7 @@ use Rattle.transport.proofs.Passes.{few}
 use Rattle.bank.specs.Recording.{View}
 use Rattle.stage.specs.declared.Settings.{Settings}
 use Rattle.stage.specs.declared.Stage.{Stage}
+use Rattle.stage.specs.Mode.{isHouse}
 use Rattle.stage.specs.Playhead.{movedOf}
 use Rattle.stage.specs.Stage.{frameOf}
 use Rattle.stage.specs.Machine.{FrameMade, passesOf}
@@ -14,7 +15,7 @@ use Rattle.stage.specs.Machine.{FrameMade, passesOf}
 -- a frame makes at most two
 pub frame-few : (x : Settings) (view : View) (s : Stage) → frameOf x view s .passes ≤ 2
 unfolding frameOf movedOf
-frame-few x view s = few (view (s .playhead .song) .frames) (view (s .playhead .song) .extent) (s .playhead .transport)
+frame-few x view s = few (isHouse x) (view (s .playhead .song) .frames) (view (s .playhead .song) .extent) (s .playhead .transport)
 
 -- they add up
 pub passes-append : (l k : List FrameMade) → passesOf (l ++ k) ≡ passesOf l + passesOf k

@@ -37,10 +37,10 @@ pub const SWAP_FADE_FRAMES: u32 = 1024;
 /// How long a master gain change takes.
 pub const GAIN_RAMP_FRAMES: u32 = 256;
 
-/// The mode in which a swap's tail ignores the master.
+/// The mode in which a swap's tail ignores the master, and rule a sends the cursor to the loop's start.
 pub const AS_TONO: u32 = 0;
 
-/// The mode in which a swap's tail is under the master.
+/// The mode in which a swap's tail is under the master, and rule a sends the cursor to the position.
 pub const HOUSE: u32 = 1;
 
 /// Fixed at opening: the rate, the mode, how many records the queue and the capture hold, and the pool's frames.
@@ -85,7 +85,7 @@ impl Playhead {
     {
         let song = self.song;
         let t = self.transport;
-        let s = t.step(frames, extent);
+        let s = t.step(settings.is_house(), frames, extent);
         let transport = s.transport;
         let cursor = s.cursor;
         Moved {

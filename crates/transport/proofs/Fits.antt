@@ -1,8 +1,8 @@
 -- Every command and every frame keeps position <= length and a loop as Loop allows. Assumes nothing.
 use mathlib.Core.Path.{_≡_, refl}
-use mathlib.Core.Bool.{true, false}
+use mathlib.Core.Bool.{Bool, true, false}
 use mathlib.Core.Logic.{_⊎_, inl, inr}
-use Prim.Native.Nat.{ℕ, _+_, _-_, _%_, _≤_, min}
+use Prim.Native.Nat.{ℕ, _+_, _≤_, min}
 use native.Mathlib.Nat.{min-le-right}
 use native.Mathlib.Omega.{arith}
 use borrow.Author.Tests.{le-leb, leb-true, leb-false}
@@ -13,7 +13,7 @@ use Rattle.transport.specs.declared.TransportState.{TransportState}
 use Rattle.transport.specs.declared.LoopRange.{LoopRange}
 use Rattle.transport.specs.declared.LoopRange.the-variants.{Off, Range}
 use Rattle.transport.specs.declared.Transport.{Transport}
-use Rattle.transport.specs.Transport.{isPlaying, transport, movedTo, wrapTo, wrapIn, wrapOf, cursorOn, landIn, advanceOf, stepOf, loopFits, transportFits, stateOf, stopOf, seekOf, loopOf, clearLoopOf}
+use Rattle.transport.specs.Transport.{isPlaying, transport, movedTo, takenIn, wrapTo, wrapIn, wrapOf, cursorOn, landIn, advanceOf, stepOf, loopFits, transportFits, stateOf, stopOf, seekOf, loopOf, clearLoopOf}
 use Rattle.transport.proofs.Within.{start-first, end-fits, lands}
 
 -- a song at 0 without a loop fits any length
@@ -54,20 +54,20 @@ module _ (extent : ℕ) (t : Transport) (h : transportFits extent t ≡ true) wh
       go (inr e) = rw e h
 
 -- rule a keeps it, over the loop
-wrap-in : (extent : ℕ) (t : Transport) (l : LoopRange) → t .looped ≡ l → transportFits extent t ≡ true → transportFits extent (wrapIn l t) ≡ true
-wrap-in extent t Off e h = h
-wrap-in extent t (Range s e) q h =
+wrap-in : (house : Bool) (extent : ℕ) (t : Transport) (l : LoopRange) → t .looped ≡ l → transportFits extent t ≡ true → transportFits extent (wrapIn house l t) ≡ true
+wrap-in house extent t Off e h = h
+wrap-in house extent t (Range s e) q h =
     let fits : loopFits extent (Range s e) ≡ true = rw q at (loops extent t h) in
-    let at : ℕ = s .0 + (t .position .0 - s .0) % (e .0 - s .0) in
-    cond-both (λ (x : Transport). transportFits extent x ≡ true) (leb (e .0) (t .position .0)) (wrapTo (s .0) (e .0) t) t
+    let at : ℕ = takenIn (s .0) (e .0) (t .position .0) in
+    cond-both (λ (x : Transport). transportFits extent x ≡ true) (leb (e .0) (t .position .0)) (wrapTo house (s .0) (e .0) t) t
     (and-true (le-leb at extent (omega (arith, end-fits extent s e fits, lands (s .0) (e .0) (t .position .0) (start-first extent s e fits)))) (loops extent t h))
     h
 
 -- rule a keeps it
-pub wrap-fits : (extent : ℕ) (t : Transport) → transportFits extent t ≡ true → transportFits extent (wrapOf t) ≡ true
+pub wrap-fits : (house : Bool) (extent : ℕ) (t : Transport) → transportFits extent t ≡ true → transportFits extent (wrapOf house t) ≡ true
 unfolding wrapOf
-wrap-fits extent t h =
-    cond-both (λ (x : Transport). transportFits extent x ≡ true) (isPlaying (t .state)) (wrapIn (t .looped) t) t (wrap-in extent t (t .looped) refl h) h
+wrap-fits house extent t h =
+    cond-both (λ (x : Transport). transportFits extent x ≡ true) (isPlaying (t .state)) (wrapIn house (t .looped) t) t (wrap-in house extent t (t .looped) refl h) h
 
 -- rule b keeps it, over the loop and where the position has risen to p
 land-in : (extent p c n : ℕ) (s : TransportState) (l : LoopRange) → loopFits extent l ≡ true
@@ -93,6 +93,6 @@ advance-fits frames extent t h =
     (land-in extent (t .position .0 + 1) c (t .laps) (t .state) (t .looped) (loops extent t h)) h
 
 -- a frame keeps it
-pub step-fits : (frames extent : ℕ) (t : Transport) → transportFits extent t ≡ true → transportFits extent (stepOf frames extent t .transport) ≡ true
+pub step-fits : (house : Bool) (frames extent : ℕ) (t : Transport) → transportFits extent t ≡ true → transportFits extent (stepOf house frames extent t .transport) ≡ true
 unfolding stepOf
-step-fits frames extent t h = advance-fits frames extent (wrapOf t) (wrap-fits extent t h)
+step-fits house frames extent t h = advance-fits frames extent (wrapOf house t) (wrap-fits house extent t h)

@@ -1,5 +1,6 @@
 -- Document 01's numbers of the transport, on the definitions. Assumes nothing.
 use mathlib.Core.Path.{_≡_, refl}
+use mathlib.Core.Bool.{Bool, true, false}
 use Prim.Native.Nat.{ℕ}
 use Rattle.transport.specs.declared.LoopRange.{LoopRange}
 use Rattle.transport.specs.declared.LoopRange.the-variants.{Off, Range}
@@ -26,13 +27,15 @@ pub deadlines :
 unfolding songDeadlineOf distanceTo
 deadlines s c = (refl, refl, refl, refl, refl)
 
--- loop 10..14: position 27 goes to 11, cursor 10; position 14 goes to 10 (rule a)
+-- loop 10..14: position 27 goes to 11, cursor 10 as tono and 11 in house mode; position 14 goes to 10, cursor 10 in both (rule a)
 pub wraps :
     (c n : ℕ)
-    → (wrapOf (transport Playing 27 c (range 10 14) n) ≡ transport Playing 11 10 (range 10 14) n)
-    × (wrapOf (transport Playing 14 c (range 10 14) n) ≡ transport Playing 10 10 (range 10 14) n)
+    → (wrapOf false (transport Playing 27 c (range 10 14) n) ≡ transport Playing 11 10 (range 10 14) n)
+    × (wrapOf true (transport Playing 27 c (range 10 14) n) ≡ transport Playing 11 11 (range 10 14) n)
+    × (wrapOf false (transport Playing 14 c (range 10 14) n) ≡ transport Playing 10 10 (range 10 14) n)
+    × (wrapOf true (transport Playing 14 c (range 10 14) n) ≡ transport Playing 10 10 (range 10 14) n)
 unfolding wrapOf
-wraps c n = (refl, refl)
+wraps c n = (refl, refl, refl, refl)
 
 -- loop 10..14: from position 13 the next frame is at 10, position and cursor (rule b)
 pub comes-round : (frames extent c n : ℕ) → advanceOf frames extent (transport Playing 13 c (range 10 14) n) ≡ transport Playing 10 10 (range 10 14) n
@@ -40,10 +43,10 @@ unfolding advanceOf
 comes-round frames extent c n = refl
 
 -- how many times the first frame passes from the end of loop 10..14 to its start, from position p
-abbrev passesAt : ℕ → ℕ
-passesAt p = stepOf 20 20 (transport Playing p p (range 10 14) 0) .passes
+abbrev passesAt : Bool → ℕ → ℕ
+passesAt house p = stepOf house 20 20 (transport Playing p p (range 10 14) 0) .passes
 
 -- from 12 not at all, from 13 once (rule b), from 14 once (rule a), from 17 twice: rule a takes it to 13, and rule b to 10
-pub passes : (passesAt 12 ≡ 0) × (passesAt 13 ≡ 1) × (passesAt 14 ≡ 1) × (passesAt 17 ≡ 2)
+pub passes : (house : Bool) → (passesAt house 12 ≡ 0) × (passesAt house 13 ≡ 1) × (passesAt house 14 ≡ 1) × (passesAt house 17 ≡ 2)
 unfolding stepOf wrapOf advanceOf isPast comesRound
-passes = (refl, refl, refl, refl)
+passes house = (refl, refl, refl, refl)

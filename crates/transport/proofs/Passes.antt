@@ -20,9 +20,9 @@ two true false = omega arith
 two false true = omega arith
 two false false = omega arith
 
-pub few : (frames extent : ℕ) (t : Transport) → stepOf frames extent t .passes ≤ 2
+pub few : (house : Bool) (frames extent : ℕ) (t : Transport) → stepOf house frames extent t .passes ≤ 2
 unfolding stepOf
-few frames extent t = two (isPast t) (comesRound (wrapOf t))
+few house frames extent t = two (isPast t) (comesRound (wrapOf house t))
 
 -- ---- the laps
 
@@ -41,23 +41,23 @@ advance-keeps frames extent t =
     let u : Transport = movedTo t (t .position .0 + 1) (cursorOn frames (t .cursor .0)) in
     cond-both (Kept t) (isPlaying (t .state)) (landIn extent (t .looped) u) t (land-in-keeps extent u (t .looped) refl) (refl, refl)
 
-module _ (frames extent : ℕ) (t : Transport) where
+module _ (house : Bool) (frames extent : ℕ) (t : Transport) where
   -- a frame keeps the loop,
-  pub step-looped : stepOf frames extent t .transport .looped ≡ t .looped
+  pub step-looped : stepOf house frames extent t .transport .looped ≡ t .looped
   unfolding stepOf
-  step-looped = advance-keeps frames extent (wrapOf t) .0 ∙ wrap-keeps t .1
+  step-looped = advance-keeps frames extent (wrapOf house t) .0 ∙ wrap-keeps house t .1
 
   -- and the laps rise by its passes, up to 2^64 - 1
-  pub step-laps : stepOf frames extent t .transport .laps ≡ min (t .laps + stepOf frames extent t .passes) (2 ^ 64 - 1)
+  pub step-laps : stepOf house frames extent t .transport .laps ≡ min (t .laps + stepOf house frames extent t .passes) (2 ^ 64 - 1)
   unfolding stepOf
-  step-laps = ap (λ n. min (n + (once (isPast t) + once (comesRound (wrapOf t)))) (2 ^ 64 - 1)) (advance-keeps frames extent (wrapOf t) .1 ∙ wrap-keeps t .2)
+  step-laps = ap (λ n. min (n + (once (isPast t) + once (comesRound (wrapOf house t)))) (2 ^ 64 - 1)) (advance-keeps frames extent (wrapOf house t) .1 ∙ wrap-keeps house t .2)
 
   -- without a loop it makes none
-  pub no-pass : t .looped ≡ Off → stepOf frames extent t .passes ≡ 0
+  pub no-pass : t .looped ≡ Off → stepOf house frames extent t .passes ≡ 0
   unfolding stepOf isPast comesRound
   no-pass e =
       let past : (l : LoopRange) (p : ℕ) → l ≡ Off → pastEnd l p ≡ false = λ l p q. rw q in
-      rw (and-false-r (isPlaying (t .state)) (past (t .looped) (t .position .0) e), and-false-r (isPlaying (wrapOf t .state)) (past (wrapOf t .looped) (wrapOf t .position .0 + 1) (wrap-keeps t .1 ∙ e)))
+      rw (and-false-r (isPlaying (t .state)) (past (t .looped) (t .position .0) e), and-false-r (isPlaying (wrapOf house t .state)) (past (wrapOf house t .looped) (wrapOf house t .position .0 + 1) (wrap-keeps house t .1 ∙ e)))
 
 -- ---- without a loop there are no laps, and they are a 64-bit number
 
@@ -66,13 +66,13 @@ pub record Counts (t : Transport) : Type 0 where
   pub low : t .laps < 2 ^ 64
 
 -- a frame keeps it so,
-pub step-counts : (frames extent : ℕ) (t : Transport) → Counts t → Counts (stepOf frames extent t .transport)
-step-counts frames extent t h =
+pub step-counts : (house : Bool) (frames extent : ℕ) (t : Transport) → Counts t → Counts (stepOf house frames extent t .transport)
+step-counts house frames extent t h =
     record {
       none = λ e.
-          let off : t .looped ≡ Off = sym (step-looped frames extent t) ∙ e in
-          omega (arith, step-laps frames extent t, h .none off, no-pass frames extent t off);
-      low = omega (arith, step-laps frames extent t);
+          let off : t .looped ≡ Off = sym (step-looped house frames extent t) ∙ e in
+          omega (arith, step-laps house frames extent t, h .none off, no-pass house frames extent t off);
+      low = omega (arith, step-laps house frames extent t);
     }
 
 -- and so does another loop, taken or not

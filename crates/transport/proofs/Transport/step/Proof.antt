@@ -29,7 +29,7 @@ returns-2 : tie.Need-returns-2
 unfolding stepOf
 returns-2 c =
     let past = sym (c .before .before .is-past .ensures) ∙ c .before .if1 .left in
-    simp (c .read-on2 .ensures, short-stays (c .before .before .before .args .self) past, past)
+    simp (c .read-on2 .ensures, short-stays (c .before .before .before .args .house) (c .before .before .before .args .self) past, past)
 
 pub step-spec : {M : Type 1} → statement M
 step-spec = tie.close (tie.spec is-past-requires wrap-requires read-on-requires returns read-on-requires-2 returns-2)

@@ -23,7 +23,13 @@ moved-to-requires : tie.Need-moved-to-requires
 moved-to-requires c κs = search needs
 
 returns : tie.Need-returns
-returns c = c .moved-to .ensures
+returns c = simp (c .moved-to .ensures, c .before .if1 .taken)
+
+moved-to-requires-2 : tie.Need-moved-to-requires-2
+moved-to-requires-2 c κs = search needs
+
+returns-2 : tie.Need-returns-2
+returns-2 c = simp (c .moved-to2 .ensures, c .before .if1 .left)
 
 pub wrap-to-spec : {M : Type 1} → statement M
-wrap-to-spec = tie.close (tie.spec sub-into sub-into-2 rem-into add-at moved-to-requires returns)
+wrap-to-spec = tie.close (tie.spec sub-into sub-into-2 rem-into add-at moved-to-requires returns moved-to-requires-2 returns-2)
