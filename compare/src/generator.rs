@@ -208,8 +208,9 @@ impl Player {
             Call::Block(frames) => ours.cut(before.session, frames, &answer, &mut self.cuts),
             _ => Vec::new(),
         };
-        if self.house.play(&call, ours, &answer, &mut self.cuts) {
-            self.reached.see_otherwise();
+        let otherwise = self.house.play(&call, ours, &answer, &mut self.cuts);
+        if matches!(call, Call::Block(_)) {
+            self.reached.see_otherwise(&otherwise);
         }
         self.passes += answer.passes();
         self.check_laps(&call, before.session.laps);

@@ -5,6 +5,7 @@ use std::ops::AddAssign;
 
 use threshreed::raw::{Command, Session, Voice};
 
+use crate::house::Otherwise;
 use crate::ours::{Ours, Row};
 use crate::script::{Answer, Call, kind, state};
 
@@ -60,7 +61,7 @@ const LISTED: usize = 18;
 const FEW: u64 = 8;
 
 /// A count for each situation, and of the calls, the frames, the samples that were not silent, the passes, the
-/// senseless loops and the blocks that sound otherwise in house mode.
+/// senseless loops, the blocks that sound otherwise in house mode and those that leave its cursors otherwise.
 #[derive(Clone, Copy)]
 pub struct Reached {
     situations: [u64; NAMES.len()],
@@ -70,6 +71,7 @@ pub struct Reached {
     passes: u64,
     senseless: u64,
     otherwise: u64,
+    apart: u64,
 }
 
 /// Our session at a moment between two calls.
@@ -190,6 +192,7 @@ impl Default for Reached {
             passes: 0,
             senseless: 0,
             otherwise: 0,
+            apart: 0,
         }
     }
 }
@@ -305,14 +308,20 @@ impl Reached {
         }
     }
 
-    /// A block sounds otherwise in house mode.
-    pub fn see_otherwise(&mut self) {
-        self.otherwise += 1;
+    /// Looks at what a block leaves otherwise in house mode.
+    pub fn see_otherwise(&mut self, block: &Otherwise) {
+        self.otherwise += u64::from(block.samples);
+        self.apart += u64::from(block.cursors);
     }
 
-    /// How many blocks do.
+    /// How many blocks sound otherwise in house mode.
     pub fn otherwise(&self) -> u64 {
         self.otherwise
+    }
+
+    /// After how many blocks the cursors of the two modes differ.
+    pub fn apart(&self) -> u64 {
+        self.apart
     }
 
     /// How many loops were submitted whose start is not below their end: the domain has none.
@@ -348,6 +357,7 @@ impl AddAssign for Reached {
         self.passes += more.passes;
         self.senseless += more.senseless;
         self.otherwise += more.otherwise;
+        self.apart += more.apart;
     }
 }
 
@@ -362,6 +372,11 @@ impl fmt::Display for Reached {
             f,
             "{:>10}  blocks that sound otherwise in house mode",
             self.otherwise
+        )?;
+        writeln!(
+            f,
+            "{:>10}  blocks after which the cursors of the two modes differ",
+            self.apart
         )?;
         for (name, count) in NAMES.into_iter().zip(self.situations) {
             writeln!(f, "{count:>10}  {name}")?;

@@ -93,6 +93,14 @@ fn seek(frame: u64) -> Command {
     }
 }
 
+fn looped(start: u64, end: u64) -> Command {
+    Command {
+        frame: start,
+        end,
+        ..plain(kind::LOOP)
+    }
+}
+
 /// The Rust's next frame reads a slice that its clip does not have.
 fn panics(mut session: Session) {
     let block = catch_unwind(AssertUnwindSafe(|| session.block(1)));
@@ -205,20 +213,20 @@ fn a_lagging_cursor_sounds_on_to_the_end_of_a_slice() {
     assert_eq!(heard(&cut.block(1)), [0.0]);
     assert_eq!(cut.snapshot(), whole.snapshot());
 
-    for blocks in [vec![4], vec![3, 1]] {
-        let mut ours = ours(&numberedly(4));
-        taken(
-            &mut ours,
-            Command {
-                end: 3,
-                ..plain(kind::LOOP)
-            },
-        );
-        taken(&mut ours, seek(4));
-        taken(&mut ours, plain(kind::PLAY));
-        ours.play(&Call::Submit(plain(kind::CLEAR_LOOP), at_frame(1)));
-        let frames: Vec<f32> = blocks.iter().flat_map(|n| sounded(&mut ours, *n)).collect();
-        assert_eq!(frames, [0.0, 1.0 / 64.0, 2.0 / 64.0, 0.0]);
+    // In house mode the cursor does not lag, and the song's last frame sounds.
+    for (mode, expected) in [
+        (mode::AS_TONO, [0.0, 1.0, 2.0, 0.0]),
+        (mode::HOUSE, [1.0, 2.0, 3.0, 0.0]),
+    ] {
+        for blocks in [vec![4], vec![3, 1]] {
+            let mut ours = ours_in(mode, &numberedly(4));
+            for command in [looped(0, 3), seek(4), plain(kind::PLAY)] {
+                taken(&mut ours, command);
+            }
+            ours.play(&Call::Submit(plain(kind::CLEAR_LOOP), at_frame(1)));
+            let frames: Vec<f32> = blocks.iter().flat_map(|n| sounded(&mut ours, *n)).collect();
+            assert_eq!(frames, expected.map(|frame| frame / 64.0));
+        }
     }
 }
 
@@ -344,12 +352,7 @@ fn a_senseless_loop_is_taken() {
         assert_eq!(session.loop_range(), None);
 
         let mut ours = ours(&steadily(0.5, 8));
-        let senseless = Command {
-            frame: start,
-            end,
-            ..plain(kind::LOOP)
-        };
-        assert_eq!(refused(&mut ours, senseless), 22);
+        assert_eq!(refused(&mut ours, looped(start, end)), 22);
         ours.list = vec![0, 1, u64::from(kind::LOOP), start, end];
         let skipped = Report {
             taken: 0,
@@ -456,5 +459,35 @@ fn a_tail_ignores_the_master() {
         sounded(&mut ours, 256);
         taken(&mut ours, swap_to(silence));
         assert_eq!(sounded(&mut ours, 1_024), expected);
+    }
+}
+
+/// Loop 10..14 and position 27: the frames that sound.
+#[test]
+fn rule_a_takes_the_song_to_the_start() {
+    let as_tono = [10.0, 11.0, 12.0, 10.0, 11.0];
+    let house = [11.0, 12.0, 13.0, 10.0, 11.0];
+
+    let commands = [
+        Submission::Loop(10, 14),
+        Submission::Seek(27),
+        Submission::Play,
+    ];
+    let mut session = started(&numbered(32), commands);
+    let before = session.passes();
+    assert_eq!(heard(&session.block(5)), as_tono);
+    assert_eq!((session.position(), session.passes() - before), (12, 2));
+
+    for (mode, expected) in [(mode::AS_TONO, as_tono), (mode::HOUSE, house)] {
+        let mut ours = ours_in(mode, &numberedly(32));
+        for command in [looped(10, 14), seek(27), plain(kind::PLAY)] {
+            taken(&mut ours, command);
+        }
+        let out: Vec<f32> = expected
+            .iter()
+            .flat_map(|frame| [frame / 64.0; 2])
+            .collect();
+        assert_eq!(ours.play(&Call::Block(5)), Answer::made(&out, 2));
+        assert_eq!(ours.session.position, 12);
     }
 }

@@ -13,6 +13,7 @@ fn our_library_and_the_rust_agree() {
     assert_eq!(reached.missing(), Vec::<&str>::new(), "never reached");
     assert_eq!(reached.senseless(), 0);
     assert!(reached.otherwise() > 0, "house mode is never heard");
+    assert!(reached.apart() > 0, "the cursors never part");
 }
 
 #[test]

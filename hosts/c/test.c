@@ -215,6 +215,29 @@ static void modes(void)
     EXPECT(unchanged(&before, &host));
 }
 
+/* Loop 10..14 and position 27, of a song whose frame i sounds as i: which frames sound as tono and in house mode. */
+static void past_its_loop(void)
+{
+    static const float heard[][5] = {{10, 11, 12, 10, 11}, {11, 12, 13, 10, 11}};
+    static uint64_t queue[4 * THRESHREED_WORDS];
+    static float song[2 * 16], pool[2 * 16], out[2 * 5];
+    uint64_t passes;
+    Threshreed t;
+    for (size_t i = 0; i < LEN(song); i += 1) {
+        song[i] = (float)(i / 2);
+    }
+    for (uint32_t mode = THRESHREED_AS_TONO; mode <= THRESHREED_HOUSE; mode += 1) {
+        tr_lend(&t, queue, LEN(queue), NULL, 0, pool, LEN(pool));
+        EXPECT(tr_open_in(&t, mode, 48000, song, LEN(song), 48000, 32) == 0);
+        EXPECT(tr_submit(&t, tr_loop(10, 14), tr_now()) == 0 && tr_submit(&t, tr_seek(27), tr_now()) == 0);
+        EXPECT(tr_submit(&t, tr_play(), tr_now()) == 0 && tr_block(&t, out, LEN(out), &passes) == 0);
+        for (size_t i = 0; i < LEN(out); i += 1) {
+            EXPECT(out[i] == heard[mode][i / 2]);
+        }
+        EXPECT(tr_position(&t) == 12 && passes == 2);
+    }
+}
+
 /* NULL for a result that is not wanted. */
 static void unwanted_results(void)
 {
@@ -244,6 +267,7 @@ int main(void)
     lists_in_words();
     passes_and_laps();
     modes();
+    past_its_loop();
     unwanted_results();
 
     /* Nothing is lent. */

@@ -83,7 +83,9 @@ enum {
 };
 
 /* A session's mode, chosen at opening. As tono: a swap's tail ignores the master gain, so that the old room bursts
- * through at full level where the score is turned down. House: the tail is under the master gain, as the song is. */
+ * through at full level where the score is turned down, and a song whose position is past its loop sounds from the
+ * loop's start, behind the playhead (tr_position). House: the tail is under the master gain, as the song is, and the
+ * song sounds where the playhead is. */
 enum { THRESHREED_AS_TONO = 0, THRESHREED_HOUSE = 1 };
 
 /* A clip's kind. */
@@ -694,7 +696,10 @@ static inline uint32_t tr_mode(const Threshreed *t) { return t->session.settings
 /* The clock: frames rendered. */
 static inline uint64_t tr_clock(const Threshreed *t) { return t->session.clock; }
 
-/* The song position. */
+/* The song position, or playhead. If it is at the loop's end or past it, the next frame that plays first takes it to
+ * start + (position - start) mod (end - start). In house mode the song sounds where the playhead is. As tono it then
+ * starts over at the loop's start, less than a loop behind the playhead, until the loop comes round, or a seek,
+ * transition, stop, swap or snapshot sets both. */
 static inline uint64_t tr_position(const Threshreed *t) { return t->session.position; }
 
 /* THRESHREED_STOPPED, THRESHREED_PLAYING or THRESHREED_PAUSED. */

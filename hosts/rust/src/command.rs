@@ -38,7 +38,8 @@ pub struct LoopRange {
     pub end: SongFrame,
 }
 
-/// A session's mode, chosen at its opening.
+/// A session's mode, chosen at its opening. It decides whether a swap's tail is under the master gain, and where a song
+/// sounds whose [position](crate::Session::position) is past its loop.
 ///
 /// The guide has turned the score down to 0.25, and the next room is silent: what the first frame of the swap lets
 /// through of the old one.
@@ -63,10 +64,10 @@ pub struct LoopRange {
 #[derive(Clone, Copy, Debug, Default, PartialEq, Eq)]
 pub enum Mode {
     /// A swap's tail ignores the master gain, so that the old room bursts through at full level where the score is
-    /// turned down.
+    /// turned down. A song whose position is past its loop sounds from the loop's start, behind the playhead.
     #[default]
     AsTono,
-    /// The tail is under the master gain, as the song is.
+    /// The tail is under the master gain, as the song is. The song sounds where the playhead is.
     House,
 }
 

@@ -26,7 +26,8 @@
 //! ```
 //!
 //! A block answers how often a loop came round in it, and [`Session::laps`] how often since the loop was set. A session
-//! plays as tono does, or in house mode, where a swap's tail is under the master gain ([`Mode`]).
+//! plays as tono does, or in house mode, where a swap's tail is under the master gain and the song sounds where the
+//! playhead is ([`Mode`]).
 //!
 //! `examples/tour.rs` plays two minutes to a WAV file, `examples/told.rs` prints what each command did.
 

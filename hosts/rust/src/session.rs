@@ -74,7 +74,8 @@ impl<const QUEUE: usize, const CAPTURE: usize, const POOL: usize> Stores<QUEUE, 
         self.open_in(Mode::default(), rate, song)
     }
 
-    /// Opens a session in a mode likewise.
+    /// Opens a session likewise in a [`Mode`], which decides whether a swap's tail is under the master gain, and where
+    /// a song sounds whose position is past its loop.
     pub fn open_in(
         &mut self,
         mode: Mode,
@@ -135,7 +136,8 @@ impl<'a> Session<'a> {
         Session::open_in(Mode::default(), rate, queue, capture, pool, song)
     }
 
-    /// Opens a session in a mode likewise.
+    /// Opens a session likewise in a [`Mode`], which decides whether a swap's tail is under the master gain, and where
+    /// a song sounds whose position is past its loop.
     pub fn open_in(
         mode: Mode,
         rate: u32,
@@ -328,7 +330,31 @@ impl<'a> Session<'a> {
         ClockFrame(self.raw.clock)
     }
 
-    /// The song position.
+    /// The song position, or playhead. If it is at the loop's end or past it, the next frame that plays first takes it
+    /// to start + (position - start) mod (end - start). In [house mode](Mode::House) the song sounds where the playhead
+    /// is. [As tono](Mode::AsTono) it then starts over at the loop's start, less than a loop behind the playhead, until
+    /// the loop comes round, or a seek, transition, stop, swap or snapshot sets both.
+    ///
+    /// With a loop from 10 to 14, a playhead at 27 is taken to 11:
+    ///
+    /// ```
+    /// use threshreed::{At, Command, LoopRange, Mode, Song, SongFrame, Stores};
+    ///
+    /// let song: Vec<f32> = (0..2 * 32).map(|i| (i / 2) as f32 / 32.0).collect();
+    /// let (start, end) = (SongFrame(10), SongFrame(14));
+    /// for (mode, heard) in [(Mode::AsTono, 10), (Mode::House, 11)] {
+    ///     let mut stores = Stores::<8, 0, 32>::new();
+    ///     let mut session = stores.open_in(mode, 48_000, Song::new(&song, 48_000))?;
+    ///     session.submit(Command::Loop(LoopRange { start, end }), At::Immediate)?;
+    ///     session.submit(Command::Seek(SongFrame(27)), At::Immediate)?;
+    ///     session.submit(Command::Play, At::Immediate)?;
+    ///     let mut out = [0.0; 2];
+    ///     session.block(&mut out)?;
+    ///     assert_eq!(out, song[2 * heard..][..2]);
+    ///     assert_eq!(session.position(), SongFrame(12));
+    /// }
+    /// # Ok::<(), threshreed::Refusal>(())
+    /// ```
     pub const fn position(&self) -> SongFrame {
         SongFrame(self.raw.position)
     }

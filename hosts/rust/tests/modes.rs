@@ -1,6 +1,8 @@
-//! A swap's tail in both modes, sample by sample beside plain arithmetic.
+//! Both modes: a swap's tail, sample by sample beside plain arithmetic, and a song whose position is past its loop.
 
-use threshreed::{At, ClockFrame, Command, Mode, Snapshot, Song, Stinger, Stores};
+use threshreed::{
+    At, ClockFrame, Command, LoopRange, Mode, Snapshot, Song, SongFrame, Stinger, Stores,
+};
 
 const RATE: u32 = 48_000;
 
@@ -121,5 +123,34 @@ fn blocks_of_any_length_make_the_same_sound() {
             assert_eq!(heard(mode, master, &pieces), whole);
             assert_eq!(heard(mode, master, &[1; FRAMES]), whole);
         }
+    }
+}
+
+/// Loop 10..14 and position 27, which the first frame takes to 11: which frame of the song sounds, and the position after
+/// it. In house mode that is one further, or the loop's start.
+#[test]
+fn a_song_past_its_loop() {
+    let song: Vec<f32> = (0..2 * 32).map(|i| (i / 2) as f32 / 32.0).collect();
+    let (start, end) = (SongFrame(10), SongFrame(14));
+    for (mode, expected) in [
+        (Mode::AsTono, [(10, 12), (11, 13), (12, 10), (10, 11)]),
+        (Mode::House, [(11, 12), (12, 13), (13, 10), (10, 11)]),
+    ] {
+        let mut stores = Stores::<8, 0, 32>::new();
+        let mut session = stores.open_in(mode, RATE, Song::new(&song, RATE)).unwrap();
+        for command in [
+            Command::Loop(LoopRange { start, end }),
+            Command::Seek(SongFrame(27)),
+            Command::Play,
+        ] {
+            session.submit(command, At::Immediate).unwrap();
+        }
+        for (frame, position) in expected {
+            let mut out = [9.0; 2];
+            session.block(&mut out).unwrap();
+            assert_eq!(out, song[2 * frame..][..2]);
+            assert_eq!(session.position(), SongFrame(position));
+        }
+        assert_eq!(session.laps(), 2);
     }
 }
