@@ -2,6 +2,7 @@
 use crate::refusals::looped;
 use crate::refusals::queue_one;
 use crate::told::block_answer;
+use crate::told::position;
 use crate::told::range;
 use control::PerformanceSnapshot;
 use counts::ClockFrame;
@@ -44,8 +45,7 @@ fn laps(s: Session) {
     range(s.loop_range());
     text(b", laps ");
     number(s.laps());
-    text(b", position ");
-    number(s.position().0);
+    position(s);
     text(b"\n");
 }
 

@@ -4,6 +4,7 @@ mod laps;
 mod loops;
 mod many;
 mod modes;
+mod playhead;
 mod refusals;
 mod same;
 mod story;
@@ -15,6 +16,7 @@ fn main() {
     loops::past_the_length();
     laps::all();
     modes::all();
+    playhead::all();
     story::replaced();
     many::queue_full();
 }

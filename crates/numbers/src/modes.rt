@@ -36,7 +36,7 @@ fn load(s: Session, queue: &[u64; 10], capture: &[u64; 5], pool: &mut [f32; 16])
 }
 
 /// A snapshot applied: 'gain at once', so that the master is at rest.
-fn rest(s: Session, queue: &[u64; 10], capture: &[u64; 5], gain: f32) -> Session {
+pub fn rest(s: Session, queue: &[u64; 10], capture: &[u64; 5], gain: f32) -> Session {
     let x = PerformanceSnapshot {
         position: SongFrame(0),
         state: TransportState::Playing,

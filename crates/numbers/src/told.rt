@@ -30,12 +30,17 @@ pub fn block_answer(a: BlockAnswer) {
     }
 }
 
+/// The position that a host reads.
+pub fn position(s: Session) {
+    text(b", position ");
+    number(s.position().0);
+}
+
 /// Where a session stands.
 pub fn place(s: Session) {
     text(b", clock ");
     number(s.clock().0);
-    text(b", position ");
-    number(s.position().0);
+    position(s);
     text(b", ");
     print::state(s.state());
     text(b", executed ");

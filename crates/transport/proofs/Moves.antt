@@ -1,4 +1,4 @@
--- What a frame moves: nothing unless Playing; without a loop the position by 1, up to the length; the cursor by at most 1, or to a loop's start. Assumes nothing.
+-- What a frame moves: nothing unless Playing; without a loop the position by 1, up to the length; the cursor by at most 1, or to a loop's start, or in house mode by rule a to the position. Assumes nothing.
 use mathlib.Core.Path.{_≡_, refl, subst}
 use mathlib.Core.Bool.{Bool, true, false, _&&_, cond}
 use mathlib.Core.Logic.{_⊎_, inl, inr}
