@@ -53,18 +53,20 @@ not-below-is g e = go (lt zero32 g) e
     go true e = inl refl
     go false e = inr (e, refl)
 
+-- one that is not refused sets the stage
+pub apply-done : (s : Session) (q c : List ℕ) (x : PerformanceSnapshot) → weighApply s q c x ≡ Weighed.Fine
+    → applyOf s q c x ≡ answered Answer.Done (withStage s (stageBy (extentNow s) x (s .stage)) (s .queued))
+unfolding applyOf
+apply-done s q c x = unless-fine (weighApply s q c x) _ _
+
 module _ (s : Session) (q c : List ℕ) (formed : wellFormed s q c ≡ true) where
   fine : weighApply s q c (snapped s) ≡ Weighed.Fine
   unfolding weighApply
   fine = sym (skip _ _ _ _ (ap not formed) (skip _ _ _ _ (ap not (parts s q c formed .master-target)) refl))
 
-  done : applyOf s q c (snapped s) ≡ answered Answer.Done (withStage s (stageBy (extentNow s) (snapped s) (s .stage)) (s .queued))
-  unfolding applyOf
-  done = unless-fine (weighApply s q c (snapped s)) _ _ fine
-
   -- a snapshot that was just taken is not refused,
   pub back-gives : says (applyOf s q c (snapped s) .answer) ≡ gives tt
-  back-gives = rw done
+  back-gives = rw (apply-done s q c (snapped s) fine)
 
   -- and leaves position, state, loop and the master's target, a target of -0.0 as +0.0
   pub back-same : snapped (applyOf s q c (snapped s) .session)
@@ -72,4 +74,4 @@ module _ (s : Session) (q c : List ℕ) (formed : wellFormed s q c ≡ true) whe
   back-same =
       let p : Parts s q c = parts s q c formed in
       let here : min (s .stage .playhead .transport .position .0) (extentNow s) ≡ s .stage .playhead .transport .position .0 = omega (arith, p .position) in
-      simp (done, p .looped, here)
+      simp (apply-done s q c (snapped s) fine, p .looped, here)

@@ -1,6 +1,6 @@
 -- Start and stop capture, snapshot, apply and metrics keep a session well formed, whether they are accepted or refused, and refused they leave
 -- everything as it came. Assumes nothing.
-use mathlib.Core.Path.{_≡_, refl, ap, _∙_}
+use mathlib.Core.Path.{_≡_, refl, sym, ap, _∙_}
 use mathlib.Core.Bool.{Bool, true, false}
 use mathlib.Core.List.{List}
 use Prim.Native.Nat.{ℕ}
@@ -176,15 +176,31 @@ module _ (s : Session) (q c : List ℕ) where
   metrics-give formed = ap (λ (a : MetricsAnswered). saysMetrics (a .answer)) (unless-fine (weighOnly s q c) _ _ (only-fine s q c formed))
 
   module _ (x : PerformanceSnapshot) where
-    -- a snapshot that is not refused has a gain from 0 to 2
-    pub apply-gain : weighApply s q c x ≡ Weighed.Fine → between zero32 two32 (x .gain) ≡ true
+    -- a snapshot that is not refused is for a well formed session,
+    apply-found : weighApply s q c x ≡ Weighed.Fine → wellFormed s q c ≡ true
+    unfolding weighApply
+    apply-found fine = not-false _ (passed _ _ _ fine .0)
+
+    -- and has a gain from 0 to 2
+    apply-gain : weighApply s q c x ≡ Weighed.Fine → between zero32 two32 (x .gain) ≡ true
     unfolding weighApply
     apply-gain fine = let p1 = passed _ _ _ fine in not-false _ (passed _ _ _ (p1 .1) .0)
 
-    -- applying one: well formed in, well formed out,
-    pub apply-kept : wellFormed s q c ≡ true → wellFormed (applyOf s q c x .session) q c ≡ true
+    -- applying one leaves a session as well formed as it was,
+    apply-formed : wellFormed (applyOf s q c x .session) q c ≡ wellFormed s q c
     unfolding applyOf
-    apply-kept formed = unless-both {A = Answered} _ _ _ (λ a. wellFormed (a .session) q c ≡ true) (λ k. formed) (λ fine. stage-kept s q c formed x (apply-gain fine))
+    apply-formed =
+        unless-both {A = Answered} _ _ _ (λ a. wellFormed (a .session) q c ≡ wellFormed s q c) (λ k. refl)
+        (λ fine. stage-kept s q c (apply-found fine) x (apply-gain fine) ∙ sym (apply-found fine))
+
+    -- well formed in, well formed out,
+    pub apply-kept : wellFormed s q c ≡ true → wellFormed (applyOf s q c x .session) q c ≡ true
+    apply-kept formed = apply-formed ∙ formed
+
+    -- so that the next one is weighed alike,
+    pub apply-weighs : (y : PerformanceSnapshot) → weighApply (applyOf s q c x .session) q c y ≡ weighApply s q c y
+    unfolding weighApply
+    apply-weighs y = rw apply-formed
 
     -- the numbers stay in their types,
     pub apply-typed : Typed s → Typed (applyOf s q c x .session)

@@ -1,5 +1,5 @@
--- A call that is not refused weighs Fine, and what a submission answers is what it weighs. Assumes nothing.
-use mathlib.Core.Path.{_≡_, refl, sym, ap}
+-- A call that is not refused weighs Fine, and what a call says is what it weighs. Assumes nothing.
+use mathlib.Core.Path.{_≡_, refl, sym, ap, _∙_}
 use mathlib.Core.Bool.{true}
 use mathlib.Core.List.{List}
 use Prim.Native.Nat.{ℕ, _≤_}
@@ -51,10 +51,13 @@ abbrev pub weighedNumber : Weighed → ℕ
 weighedNumber Weighed.Fine = 0
 weighedNumber (Weighed.Refused k) = numberOf k
 
--- is what a submission answers
+-- is what a call says,
+pub says-weighed : {A : Type 0} (w : Weighed) (refusal : Refusal → A) (done : A) (told : A → ℕ) → ((k : Refusal) → told (refusal k) ≡ numberOf k) → told done ≡ 0
+    → told (unless w refusal done) ≡ weighedNumber w
+says-weighed w refusal done told says none =
+    refused-or-done w refusal done (λ a. told a ≡ weighedNumber w) (λ k e. says k ∙ sym (ap weighedNumber e)) (λ e. none ∙ sym (ap weighedNumber e))
+
+-- and so what a submission answers
 pub submit-says : (x : State) (y : Submission) (at : At) → refusal (submit y at) x ≡ weighedNumber (weighSubmit (x .session) (x .queue) (x .capture) y)
 unfolding submitOf taken
-submit-says x y at =
-    let w : Weighed = weighSubmit (x .session) (x .queue) (x .capture) y in
-    refused-or-done {A = SubmitAnswered × List ℕ × List ℕ} w _ _ (λ z. code (saysSubmit (z .0 .answer)) ≡ weighedNumber w) (λ k e. sym (ap weighedNumber e))
-    (λ e. sym (ap weighedNumber e))
+submit-says x y at = says-weighed {A = SubmitAnswered × List ℕ × List ℕ} _ _ _ (λ z. code (saysSubmit (z .0 .answer))) (λ k. refl) refl

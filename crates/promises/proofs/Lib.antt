@@ -8,6 +8,7 @@ pub mod Declick
 mod Magnitude
 pub mod Modes
 pub mod Together
+pub mod Undo
 pub mod Never
 pub mod Exchanged
 mod Fine

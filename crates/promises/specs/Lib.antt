@@ -5,6 +5,7 @@ pub mod Tail
 pub mod Laps
 pub mod Modes
 pub mod Together
+pub mod Undo
 pub mod Kept
 pub mod Exchanged
 pub mod Refused
