@@ -3,6 +3,8 @@
 use std::fmt;
 use std::panic::{AssertUnwindSafe, catch_unwind};
 
+use threshreed::raw::Snapshot;
+
 use crate::ours::Ours;
 use crate::script::{Answer, Call, Material, Standing, mode};
 use crate::theirs::Theirs;
@@ -64,6 +66,12 @@ impl Both {
             return Err(self.difference(call, format!("{ours:?}"), "panics".to_string()));
         };
         self.compare(call, ours, theirs)
+    }
+
+    /// Lays a snapshot in the place of the one taken last.
+    pub fn lay(&mut self, snapshot: Snapshot) {
+        self.ours.snapshot = Some(snapshot);
+        self.theirs.lay(snapshot);
     }
 
     fn compare(&mut self, call: &Call, ours: Answer, theirs: Answer) -> Result<Answer, Difference> {

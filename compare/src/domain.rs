@@ -11,6 +11,11 @@ use crate::script::{kind, state};
 /// The frames that a swap's tail sounds.
 const TAIL: u32 = 1024;
 
+/// Whether a loop fits a song of this length.
+pub fn fits(start: u64, end: u64, extent: u64) -> bool {
+    start < end && end <= extent
+}
+
 /// As much of a session as decides where the song and the tail read, and how often its loop has come round.
 #[derive(Clone, Copy, Debug, PartialEq)]
 struct Playhead {
@@ -168,7 +173,7 @@ impl Playhead {
                 self.position = first.min(extent);
                 self.cursor = first;
             }
-            kind::LOOP if first < second && second <= extent => {
+            kind::LOOP if fits(first, second, extent) => {
                 self.set_loop(Some((first, second)));
             }
             kind::CLEAR_LOOP => self.set_loop(None),

@@ -265,9 +265,28 @@ pub const FAULTS: &[Fault] = &[
         name: "ride-starts-at-1",
         edits: &[edit("ramp", "fn set", "- self.value", "- 1.0")],
     },
+    // Snapshots. Only ones that were never taken meet the last: no loop that is submitted is senseless.
     Fault {
         name: "snapshot-of-the-value",
         edits: &[edit("performance", "fn snapshot", "target()", "value()")],
+    },
+    Fault {
+        name: "unset-loop-of-a-snapshot-clears",
+        edits: &[edit(
+            "performance",
+            "fn apply_snapshot",
+            "self.transport.set_loop",
+            "self.transport.clear_loop(); self.transport.set_loop",
+        )],
+    },
+    Fault {
+        name: "senseless-loop-of-a-snapshot-is-set",
+        edits: &[edit(
+            "transport",
+            "fn set_loop_frames",
+            "start >= end",
+            "false",
+        )],
     },
 ];
 

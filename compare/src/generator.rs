@@ -1,6 +1,7 @@
 //! Random sessions inside the domain of the comparison, each decided by its seed and its size, leaning
 //! towards short songs, loops, crowded frames and crowded swaps. Long ones also have clips of a few frames,
-//! clips that are spoiled, choruses, and blocks up to where something ends; a short one draws for none of it.
+//! clips that are spoiled, choruses, snapshots that were never taken, and blocks up to where something ends; a
+//! short one draws for none of it.
 
 use threshreed::raw::{At, Clip, Command, Handle, Ramp, Session};
 
@@ -15,6 +16,7 @@ use crate::script::{
     CAPTURE, Call, Material, NOW, POOL, QUEUE, RATE, SONG, STINGER, at_frame, at_song, kind, plain,
     state,
 };
+use crate::undo;
 
 /// How long a session is.
 #[derive(Clone, Copy, PartialEq)]
@@ -61,7 +63,6 @@ pub fn play(seed: u64, size: Size, lines: bool) -> Result<Played, Difference> {
         loads: 1,
         retired: Vec::new(),
         last_frame: 0,
-        snapped: false,
         passes: 0,
         reached: Reached::default(),
     };
@@ -76,7 +77,7 @@ struct Player {
     both: Both,
     house: House,
     dice: Dice,
-    /// Decides where blocks are cut, and nothing of the session.
+    /// Decides where blocks are cut and which snapshots the laws are looked at with, and nothing of the session.
     cuts: Dice,
     mood: Mood,
     size: Size,
@@ -86,8 +87,6 @@ struct Player {
     retired: Vec<u64>,
     /// The clock frame named last.
     last_frame: u64,
-    /// A snapshot was taken.
-    snapped: bool,
     /// The passes of all blocks so far.
     passes: u64,
     reached: Reached,
@@ -108,6 +107,7 @@ enum Step {
     Replay,
     Snapshot,
     Apply,
+    Undo,
     PastLoop,
 }
 
@@ -146,6 +146,10 @@ impl Player {
             _ if self.size == Size::Long => 1,
             _ => 0,
         };
+        let undo = match self.size {
+            Size::Short => 0,
+            Size::Long => 3,
+        };
         let step = self.dice.weighed(&[
             (Step::Submit, 44),
             (Step::Burst, burst),
@@ -159,6 +163,7 @@ impl Player {
             (Step::Replay, 4),
             (Step::Snapshot, 3),
             (Step::Apply, 3),
+            (Step::Undo, undo),
             (Step::PastLoop, 4),
         ]);
         match step {
@@ -185,15 +190,13 @@ impl Player {
             Step::StartCapture => self.call(Call::StartCapture)?,
             Step::StopCapture => self.call(Call::StopCapture)?,
             Step::Replay => self.replay()?,
-            Step::Snapshot => {
-                self.call(Call::Snapshot)?;
-                self.snapped = true;
-            }
+            Step::Snapshot => self.call(Call::Snapshot)?,
             Step::Apply => {
-                if self.snapped {
+                if self.both.ours.snapshot.is_some() {
                     self.call(Call::Apply)?;
                 }
             }
+            Step::Undo => self.undo()?,
             Step::PastLoop => return self.past_loop(),
         }
         Ok(true)
@@ -214,6 +217,7 @@ impl Player {
         }
         self.passes += answer.passes();
         self.check_laps(&call, before.session.laps);
+        self.check_laws();
         let after = Moment::of(&self.both.ours);
         self.reached
             .see(&call, &answer, &before, &after, &pieces, &self.retired);
@@ -224,20 +228,28 @@ impl Player {
     /// walk checks; else a snapshot alone sets them back, if its loop is none or fits.
     fn check_laps(&self, call: &Call, before: u64) {
         let ours = &self.both.ours;
-        let Session {
-            looped, laps, song, ..
-        } = ours.session;
+        let Session { looped, laps, .. } = ours.session;
         assert!(looped.set == 1 || laps == 0, "laps without a loop");
         assert!(laps <= self.passes, "more laps than passes");
         match call {
             Call::Block(_) => {}
             Call::Apply => {
                 let of_snapshot = ours.snapshot.expect("a snapshot was taken").looped;
-                let kept = of_snapshot.set == 1 && of_snapshot.end > ours.clip(song).extent;
-                assert_eq!(laps, if kept { before } else { 0 }, "laps of a snapshot");
+                let set = undo::loop_fits(ours, of_snapshot);
+                assert_eq!(laps, if set { 0 } else { before }, "laps of a snapshot");
             }
             _ => assert_eq!(laps, before, "laps of another call"),
         }
+    }
+
+    /// The laws of any two snapshots hold where the session stands as tono, and where it does in house mode.
+    fn check_laws(&mut self) {
+        let ours = &self.both.ours;
+        let s = undo::any(ours, &mut self.cuts);
+        let t = undo::any(ours, &mut self.cuts);
+        let met = undo::laws(ours, s, t);
+        assert_eq!(self.house.laws(s, t), met, "other laws in house mode");
+        self.reached.see_laws(&met);
     }
 
     /// A block, as long as the domain allows. Where it allows none, the song is stopped first, and where
@@ -301,6 +313,17 @@ impl Player {
         ends.retain(|frames| (1..2_000).contains(frames));
         let end = self.dice.pick(&ends);
         (end + self.dice.below(3) - 1) as usize
+    }
+
+    /// Applies snapshots one after the other.
+    fn undo(&mut self) -> Result<(), Difference> {
+        for _ in 0..self.dice.from(1, 3) {
+            let snapshot = undo::inside(&self.both.ours, &mut self.dice);
+            self.both.lay(snapshot);
+            self.house.lay(snapshot);
+            self.call(Call::Apply)?;
+        }
+        Ok(())
     }
 
     /// Ends a block with a seek past the loop's end, so that the next one begins there.

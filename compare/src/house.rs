@@ -4,11 +4,12 @@
 
 use std::collections::HashMap;
 
-use threshreed::raw::{Handle, Loop, Ramp, Session};
+use threshreed::raw::{Handle, Loop, Ramp, Session, Snapshot};
 
 use crate::dice::Dice;
 use crate::ours::Ours;
 use crate::script::{Answer, Call, Material, mode, state};
+use crate::undo::{self, Met};
 
 pub struct House {
     ours: Ours,
@@ -84,6 +85,16 @@ impl House {
             samples,
             cursors: song || tail,
         }
+    }
+
+    /// Lays a snapshot in the place of the one taken last.
+    pub fn lay(&mut self, snapshot: Snapshot) {
+        self.ours.snapshot = Some(snapshot);
+    }
+
+    /// Looks at the laws of two snapshots where the session stands.
+    pub fn laws(&self, s: Snapshot, t: Snapshot) -> Met {
+        undo::laws(&self.ours, s, t)
     }
 
     /// Panics unless the song's cursor is at the playhead, or both are past its clip.

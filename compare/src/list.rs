@@ -15,7 +15,7 @@ use threshreed::raw::{Command, Handle};
 use crate::both::{Both, Difference};
 use crate::generator::{self, Size};
 use crate::reached::Reached;
-use crate::script::{Call, Material, NOW, RATE, SONG, STINGER, at_frame, kind, plain};
+use crate::script::{Call, Material, NOW, RATE, at_frame, kind, plain};
 
 /// How many sessions the list has.
 pub const SESSIONS: u64 = 200;
@@ -53,7 +53,7 @@ pub fn written() -> Result<(String, Reached), Difference> {
 
 /// The list with mistakes: one session, with one number wrong in the first line of each kind of call.
 pub fn mistaken() -> Result<String, Difference> {
-    let mut both = Both::open(0, RATE, clip(SONG, 300, 1), true)?;
+    let mut both = Both::open(0, RATE, Material::song(300, 1), true)?;
     for call in every_call() {
         both.play(&call)?;
     }
@@ -81,7 +81,7 @@ fn every_call() -> [Call; 14] {
         ..plain(kind::STINGER)
     };
     [
-        Call::Load(clip(STINGER, 30, 2)),
+        Call::Load(Material::stinger(30, 2)),
         Call::StartCapture,
         Call::Submit(plain(kind::PLAY), NOW),
         Call::Submit(looped, NOW),
@@ -96,16 +96,6 @@ fn every_call() -> [Call; 14] {
         Call::Retire(bell),
         Call::Block(64),
     ]
-}
-
-fn clip(kind: u32, frames: u64, seed: u32) -> Material {
-    Material {
-        kind,
-        frames,
-        extent: if kind == SONG { frames } else { 0 },
-        seed,
-        spoiled: false,
-    }
 }
 
 /// The lowest bit is turned over of the answer's last number, or, if nothing is answered, of the state's

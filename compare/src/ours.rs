@@ -19,7 +19,7 @@ pub struct Ours {
     pub pool: Vec<f32>,
     /// The records that the last stop of capture gave.
     pub list: Vec<u64>,
-    /// The snapshot taken last.
+    /// The snapshot taken last, or one laid in its place.
     pub snapshot: Option<raw::Snapshot>,
 }
 

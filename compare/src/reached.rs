@@ -3,14 +3,15 @@
 use std::fmt;
 use std::ops::AddAssign;
 
-use threshreed::raw::{Command, Session, Voice};
+use threshreed::raw::{Session, Snapshot, Voice};
 
 use crate::house::Otherwise;
 use crate::ours::{Ours, Row};
 use crate::script::{Answer, Call, kind, state};
+use crate::undo::{LAWS, Met};
 
 /// The situations, in the order in which they are counted.
-const NAMES: [&str; 41] = [
+const NAMES: [&str; 44] = [
     "16 voices",
     "two due at a block's end",
     "a swap in a swap",
@@ -52,6 +53,9 @@ const NAMES: [&str; 41] = [
     "a cut block with passes in two of its pieces",
     "a tail under a master at rest that is not at 1.0",
     "a tail under a master that moves",
+    "a snapshot past the song's length",
+    "a snapshot with a senseless loop",
+    "a snapshot whose loop is not set, over laps",
 ];
 
 /// The fixed list must reach the first so many of them.
@@ -60,11 +64,13 @@ const LISTED: usize = 18;
 /// At most so many frames are few.
 const FEW: u64 = 8;
 
-/// A count for each situation, and of the calls, the frames, the samples that were not silent, the passes, the
-/// senseless loops, the blocks that sound otherwise in house mode and those that leave its cursors otherwise.
+/// A count for each situation, for each way in which a law of snapshots is met, and of the calls, the frames, the
+/// samples that were not silent, the passes, the senseless loops, the blocks that sound otherwise in house mode and
+/// those that leave its cursors otherwise.
 #[derive(Clone, Copy)]
 pub struct Reached {
     situations: [u64; NAMES.len()],
+    laws: [u64; LAWS.len()],
     calls: u64,
     frames: u64,
     sounding: u64,
@@ -85,6 +91,8 @@ pub struct Moment {
     left: Vec<u64>,
     /// Whether the next frame reads a pattern as +0.0 for the song, for the tail, for a voice.
     silenced: [bool; 3],
+    /// What would be applied.
+    snapshot: Option<Snapshot>,
 }
 
 impl Moment {
@@ -103,6 +111,7 @@ impl Moment {
                     .iter()
                     .any(|voice| ours.is_silenced(voice.handle, voice.head as u64 / 2)),
             ],
+            snapshot: ours.snapshot,
         }
     }
 
@@ -178,14 +187,15 @@ impl Moment {
     }
 }
 
-fn is_senseless(range: &Command) -> bool {
-    range.frame >= range.end
+fn is_senseless(start: u64, end: u64) -> bool {
+    start >= end
 }
 
 impl Default for Reached {
     fn default() -> Reached {
         Reached {
             situations: [0; NAMES.len()],
+            laws: [0; LAWS.len()],
             calls: 0,
             frames: 0,
             sounding: 0,
@@ -233,6 +243,7 @@ impl Reached {
             Call::Submit(command, _) if command.kind == kind::LOOP => Some(command),
             _ => None,
         };
+        let applied = before.snapshot.filter(|_| *call == Call::Apply);
         let again = match (call, answer) {
             (Call::Load(_), Answer::Loaded(handle)) => {
                 retired.contains(&is.clips[handle.slot as usize].start)
@@ -295,12 +306,16 @@ impl Reached {
             pieces.iter().filter(|passes| **passes > 0).count() > 1,
             nothing_due && before.tail() && ride == 0 && was.master.value != 1.0,
             nothing_due && before.tail() && ride > 0,
+            applied.is_some_and(|x| x.position > before.length()),
+            applied
+                .is_some_and(|x| x.looped.set == 1 && is_senseless(x.looped.start, x.looped.end)),
+            applied.is_some() && is.laps > 0,
         ];
         for (count, seen) in self.situations.iter_mut().zip(seen) {
             *count += u64::from(seen);
         }
         self.calls += 1;
-        self.senseless += u64::from(looped.is_some_and(is_senseless));
+        self.senseless += u64::from(looped.is_some_and(|x| is_senseless(x.frame, x.end)));
         self.passes += passes;
         if let Answer::Made(bits, _) = answer {
             self.frames += bits.len() as u64 / 2;
@@ -312,6 +327,13 @@ impl Reached {
     pub fn see_otherwise(&mut self, block: &Otherwise) {
         self.otherwise += u64::from(block.samples);
         self.apart += u64::from(block.cursors);
+    }
+
+    /// Looks at how the laws of snapshots were met, in both modes.
+    pub fn see_laws(&mut self, met: &Met) {
+        for (count, met) in self.laws.iter_mut().zip(met) {
+            *count += u64::from(*met);
+        }
     }
 
     /// How many blocks sound otherwise in house mode.
@@ -329,26 +351,30 @@ impl Reached {
         self.senseless
     }
 
-    /// The situations that were never reached.
+    /// The situations that were never reached, and how the laws were never met.
     pub fn missing(&self) -> Vec<&'static str> {
-        self.missing_of(NAMES.len())
+        [never(&NAMES, &self.situations), never(&LAWS, &self.laws)].concat()
     }
 
-    /// Those of them that the fixed list must reach.
+    /// The situations that the fixed list must reach and does not.
     pub fn missing_in_list(&self) -> Vec<&'static str> {
-        self.missing_of(LISTED)
+        never(&NAMES[..LISTED], &self.situations)
     }
+}
 
-    fn missing_of(&self, first: usize) -> Vec<&'static str> {
-        let counted = NAMES.into_iter().zip(self.situations).take(first);
-        let never = counted.filter(|(_, count)| *count == 0);
-        never.map(|(name, _)| name).collect()
-    }
+/// The names whose count is 0.
+fn never(names: &[&'static str], counts: &[u64]) -> Vec<&'static str> {
+    let counted = names.iter().zip(counts);
+    let never = counted.filter(|(_, count)| **count == 0);
+    never.map(|(name, _)| *name).collect()
 }
 
 impl AddAssign for Reached {
     fn add_assign(&mut self, more: Reached) {
         for (count, more) in self.situations.iter_mut().zip(more.situations) {
+            *count += more;
+        }
+        for (count, more) in self.laws.iter_mut().zip(more.laws) {
             *count += more;
         }
         self.calls += more.calls;
@@ -380,6 +406,9 @@ impl fmt::Display for Reached {
         )?;
         for (name, count) in NAMES.into_iter().zip(self.situations) {
             writeln!(f, "{count:>10}  {name}")?;
+        }
+        for (name, count) in LAWS.into_iter().zip(self.laws) {
+            writeln!(f, "{count:>10}  {name}, in both modes")?;
         }
         Ok(())
     }

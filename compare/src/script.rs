@@ -62,6 +62,25 @@ pub struct Material {
 }
 
 impl Material {
+    /// A song that is as long as its frames.
+    pub fn song(frames: u64, seed: u32) -> Material {
+        Material {
+            kind: SONG,
+            frames,
+            extent: frames,
+            seed,
+            spoiled: false,
+        }
+    }
+
+    pub fn stinger(frames: u64, seed: u32) -> Material {
+        Material {
+            kind: STINGER,
+            extent: 0,
+            ..Material::song(frames, seed)
+        }
+    }
+
     /// What is written over the clip in our pool, by places.
     pub fn spoils(&self) -> Vec<(usize, f32)> {
         match self.spoiled {
@@ -81,7 +100,7 @@ impl Material {
 }
 
 /// A call. A replay takes the list that the last stop of the session gave, and the snapshot that is
-/// applied is the one taken last.
+/// applied is the one taken last, or one laid in its place.
 #[derive(Clone, Debug, PartialEq)]
 pub enum Call {
     Open(Material),

@@ -1,7 +1,7 @@
 //! tono's side: one of its performances, and a table of clips, since tono has no handles. A clip gets
 //! the lowest free slot and the next serial.
 
-use threshreed::raw::{At, Command, Handle, Loop, Report};
+use threshreed::raw::{At, Command, Handle, Loop, Report, Snapshot};
 
 use crate::ours::handle_word;
 use crate::runtime::performance;
@@ -95,6 +95,17 @@ impl Theirs {
                 Answer::Done
             }
         }
+    }
+
+    /// Lays a snapshot in the place of the one taken last.
+    pub fn lay(&mut self, snapshot: Snapshot) {
+        let Loop { set, start, end } = snapshot.looped;
+        self.snapshot = Some(PerformanceSnapshot {
+            position: snapshot.position,
+            state: transport_state(snapshot.state),
+            master_gain: snapshot.gain,
+            loop_range: (set == 1).then_some((start, end)),
+        });
     }
 
     /// tono's replay returns nothing: it is told by the depth and the dropped count.
@@ -247,6 +258,15 @@ fn state_number(transport: TransportState) -> u32 {
         TransportState::Stopped => state::STOPPED,
         TransportState::Playing => state::PLAYING,
         TransportState::Paused => state::PAUSED,
+    }
+}
+
+fn transport_state(number: u32) -> TransportState {
+    match number {
+        state::STOPPED => TransportState::Stopped,
+        state::PLAYING => TransportState::Playing,
+        state::PAUSED => TransportState::Paused,
+        other => panic!("no state has number {other}"),
     }
 }
 

@@ -2,23 +2,15 @@
 //! stands the sentence that it runs.
 
 use compare::both::Both;
-use compare::script::{Call, Material, NOW, RATE, SONG, at_frame, kind, plain};
+use compare::script::{Call, Material, NOW, RATE, at_frame, kind, plain};
 use threshreed::raw::{Command, Handle};
 
-/// A song of 32 frames.
-fn song(seed: u32) -> Material {
-    Material {
-        kind: SONG,
-        frames: 32,
-        extent: 32,
-        seed,
-        spoiled: false,
-    }
-}
+/// The length of each song.
+const LENGTH: u64 = 32;
 
 /// Both sides, playing from a position in a loop.
 fn looping(start: u64, end: u64, position: u64) -> Both {
-    let mut both = Both::open(0, RATE, song(1), false).unwrap();
+    let mut both = Both::open(0, RATE, Material::song(LENGTH, 1), false).unwrap();
     let seek = Command {
         frame: position,
         ..plain(kind::SEEK)
@@ -80,7 +72,7 @@ fn what_sets_the_laps_back() {
         (looped(0, 33), 4, 4),
     ] {
         let mut both = looping(0, 10, 0);
-        both.play(&Call::Load(song(2))).unwrap();
+        both.play(&Call::Load(Material::song(LENGTH, 2))).unwrap();
         both.play(&Call::Submit(command, at_frame(20))).unwrap();
         assert_eq!(passes(&mut both, 42), told, "{command:?}");
         assert_eq!(both.ours.session.laps, laps, "{command:?}");
