@@ -238,6 +238,58 @@ static void past_its_loop(void)
     }
 }
 
+/* A song of eight frames plays in a loop of one, which has come round twice; a ride is on its way. */
+static void go_round(Host *h, uint32_t mode)
+{
+    lend(h);
+    EXPECT(tr_open_in(&h->t, mode, 48000, pair, LEN(pair), 48000, 8) == 0);
+    EXPECT(tr_submit(&h->t, tr_loop(0, 1), tr_now()) == 0 && tr_submit(&h->t, tr_play(), tr_now()) == 0);
+    EXPECT(tr_submit(&h->t, tr_gain(0.5f), tr_now()) == 0);
+    EXPECT(tr_block(&h->t, h->out, LEN(h->out), NULL) == 0 && tr_laps(&h->t) == 2);
+}
+
+/* The same session, and after the next block the same sound. */
+static void expect_same(Host *a, Host *b)
+{
+    EXPECT(same(&a->t.session, &b->t.session));
+    EXPECT(tr_block(&a->t, a->out, LEN(a->out), NULL) == 0 && tr_block(&b->t, b->out, LEN(b->out), NULL) == 0);
+    EXPECT(memcmp(a->out, b->out, sizeof a->out) == 0 && same(&a->t.session, &b->t.session));
+}
+
+/* Snapshots one after the other, as an undo button applies them. */
+static void undo(void)
+{
+    static const ThreshreedSnapshot s = {5, THRESHREED_PAUSED, 0.25f, {1, 3, 5}};
+    static const ThreshreedSnapshot t = {1, THRESHREED_PLAYING, 0.75f, {1, 0, 8}};
+    static Host host, other;
+    for (uint32_t mode = THRESHREED_AS_TONO; mode <= THRESHREED_HOUSE; mode += 1) {
+        ThreshreedSnapshot past = t;
+        go_round(&host, mode);
+        go_round(&other, mode);
+        EXPECT(tr_apply_snapshot(&host.t, s) == 0 && tr_apply_snapshot(&host.t, s) == 0);
+        EXPECT(tr_apply_snapshot(&other.t, s) == 0);
+        expect_same(&host, &other);
+
+        go_round(&host, mode);
+        go_round(&other, mode);
+        EXPECT(tr_apply_snapshot(&host.t, s) == 0 && tr_apply_snapshot(&host.t, t) == 0);
+        EXPECT(tr_apply_snapshot(&other.t, t) == 0);
+        expect_same(&host, &other);
+
+        /* A loop past the length: the one before it remains, and all else is the last one's. */
+        go_round(&host, mode);
+        past.looped.end = 9;
+        EXPECT(tr_apply_snapshot(&host.t, past) == 0);
+        EXPECT(tr_loop_range(&host.t).end == 1 && tr_laps(&host.t) == 2);
+        EXPECT(tr_apply_snapshot(&host.t, s) == 0 && tr_apply_snapshot(&host.t, past) == 0);
+        EXPECT(tr_loop_range(&host.t).end == 5 && tr_laps(&host.t) == 0);
+        go_round(&other, mode);
+        past.looped = s.looped;
+        EXPECT(tr_apply_snapshot(&other.t, past) == 0);
+        expect_same(&host, &other);
+    }
+}
+
 /* NULL for a result that is not wanted. */
 static void unwanted_results(void)
 {
@@ -268,6 +320,7 @@ int main(void)
     passes_and_laps();
     modes();
     past_its_loop();
+    undo();
     unwanted_results();
 
     /* Nothing is lent. */

@@ -669,7 +669,11 @@ static inline uint32_t tr_snapshot(const Threshreed *t, ThreshreedSnapshot *snap
     return r.refusal;
 }
 
-/* Applies a control snapshot at once. Clock, queue, tail and voices stay. */
+/* Applies a control snapshot at once. Clock, queue, tail and voices stay.
+ *
+ * An undo button may apply snapshots freely, in both modes. Twice is as once. The last one decides alone, whatever was
+ * applied before it, if its loop is none or fits the song that plays. If its loop does not fit, the loop and its laps
+ * remain as they were left, and all else is as the last one says. */
 static inline uint32_t tr_apply_snapshot(Threshreed *t, ThreshreedSnapshot snapshot)
 {
     ThreshreedAnswered r =

@@ -308,6 +308,51 @@ impl<'a> Session<'a> {
     }
 
     /// Applies a control snapshot at once. Clock, queue, tail and voices stay.
+    ///
+    /// An undo button may apply snapshots freely, in both modes. Twice is as once. The last one decides alone, whatever
+    /// was applied before it, if its loop is none or fits the song that plays. If its loop does not fit, the loop and
+    /// its [`laps`](Session::laps) remain as they were left, and all else is as the last one says.
+    ///
+    /// ```
+    /// use threshreed::{At, Command, LoopRange, Song, SongFrame, Stores};
+    ///
+    /// let mut stores = Stores::<8, 0, 12>::new();
+    /// let mut session = stores.open(48_000, Song::new(&[0.5; 2 * 8], 48_000))?;
+    /// let short = session.load_song(Song::new(&[0.25; 2 * 4], 48_000))?;
+    /// let range = |start, end| LoopRange { start: SongFrame(start), end: SongFrame(end) };
+    /// let mut out = [0.0; 2];
+    ///
+    /// // A snapshot is taken before each change.
+    /// let mut undo = Vec::new();
+    /// for change in [Command::Play, Command::Loop(range(2, 8)), Command::Gain(0.25)] {
+    ///     undo.push(session.snapshot()?);
+    ///     session.submit(change, At::Immediate)?;
+    ///     session.block(&mut out)?;
+    /// }
+    /// let changed = session.snapshot()?;
+    ///
+    /// // Back step by step, and forth again; then at once to the first, pressed twice.
+    /// for snapshot in undo.iter().rev() {
+    ///     session.apply_snapshot(*snapshot)?;
+    ///     assert_eq!(session.snapshot()?, *snapshot);
+    /// }
+    /// session.apply_snapshot(changed)?;
+    /// assert_eq!(session.loop_range(), Some(range(2, 8)));
+    /// for _ in 0..2 {
+    ///     session.apply_snapshot(undo[0])?;
+    ///     assert_eq!(session.snapshot()?, undo[0]);
+    /// }
+    ///
+    /// // In a shorter song the old loop does not fit: the one that is there remains.
+    /// for change in [Command::Swap(short), Command::Loop(range(0, 4))] {
+    ///     session.submit(change, At::Immediate)?;
+    /// }
+    /// session.block(&mut out)?;
+    /// session.apply_snapshot(changed)?;
+    /// assert_eq!(session.loop_range(), Some(range(0, 4)));
+    /// assert_eq!((session.position(), session.master_gain()), (SongFrame(3), 0.25));
+    /// # Ok::<(), threshreed::Refusal>(())
+    /// ```
     pub fn apply_snapshot(&mut self, snapshot: Snapshot) -> Result<(), Refusal> {
         let answered = raw::apply_snapshot(self.raw, self.queue, self.capture, snapshot.into());
         self.answer(answered)
