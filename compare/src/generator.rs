@@ -235,8 +235,8 @@ impl Player {
             Call::Block(_) => {}
             Call::Apply => {
                 let of_snapshot = ours.snapshot.expect("a snapshot was taken").looped;
-                let set = undo::loop_fits(ours, of_snapshot);
-                assert_eq!(laps, if set { 0 } else { before }, "laps of a snapshot");
+                let fits = undo::loop_fits(ours, of_snapshot);
+                assert_eq!(laps, if fits { 0 } else { before }, "laps of a snapshot");
             }
             _ => assert_eq!(laps, before, "laps of another call"),
         }

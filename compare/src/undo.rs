@@ -127,7 +127,7 @@ pub fn laws(ours: &Ours, s: Snapshot, t: Snapshot) -> Met {
             };
             (remains, "as alone with the loop that was left")
         }
-        _ => (first.session, "nothing"),
+        _ => (first.session, "as if it were not there"),
     };
     assert!(last.session == expected, "{t:?} after {s:?} is not {law}");
 

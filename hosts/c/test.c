@@ -238,7 +238,7 @@ static void past_its_loop(void)
     }
 }
 
-/* A song of eight frames plays in a loop of one, which has come round twice; a ride is on its way. */
+/* A song of length eight plays in a loop of one frame, which has come round twice; a ride is on its way. */
 static void go_round(Host *h, uint32_t mode)
 {
     lend(h);
