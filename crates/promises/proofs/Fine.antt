@@ -30,6 +30,13 @@ zero-fine w refusal done told e =
     none : (n : ℕ) (k : Refusal) → n ≡ numberOf k → n ≡ 0 → ⊥
     none n k e z = let l : 1 ≤ numberOf k = number-some k in omega arith
 
+-- two calls that weigh the same: both are refused alike, or both do what they do
+pub both : {A B : Type 0} (w : Weighed) (refusal : Refusal → A) (done : A) (refusal' : Refusal → B) (done' : B) (P : A → B → Type 0)
+    → ((k : Refusal) → P (refusal k) (refusal' k)) → P done done' → P (unless w refusal done) (unless w refusal' done')
+unfolding unless
+both Weighed.Fine r d r' d' P f g = g
+both (Weighed.Refused k) r d r' d' P f g = f k
+
 module _ (x : State) (out : List Float) where
   -- a block that says 0 is accepted,
   pub block-accepts : refusal (block out) x ≡ 0 → Accepted (x .session) (x .queue) (x .capture) (x .pool) out

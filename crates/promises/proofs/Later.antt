@@ -39,16 +39,9 @@ use Rattle.promises.specs.Calls.{State, submit, block, withSession, refu
 use Rattle.promises.specs.Kept.{Good}
 use Rattle.promises.specs.Later.{SameButDeepest, SoundSame, SoundOn, Later}
 use Rattle.promises.proofs.Leaves.{heart, submit-leaves}
-use Rattle.promises.proofs.Fine.{block-accepts, block-says}
+use Rattle.promises.proofs.Fine.{both, block-accepts, block-says}
 use Rattle.promises.proofs.Exchanged.{submit-accepts}
 use Rattle.promises.proofs.Kept.{keeps}
-
--- two calls that weigh the same: both are refused alike, or both do what they do
-both : {A B : Type 0} (w : Weighed) (refusal : Refusal → A) (done : A) (refusal' : Refusal → B) (done' : B) (P : A → B → Type 0)
-    → ((k : Refusal) → P (refusal k) (refusal' k)) → P done done' → P (unless w refusal done) (unless w refusal' done')
-unfolding unless
-both Weighed.Fine r d r' d' P f g = g
-both (Weighed.Refused k) r d r' d' P f g = f k
 
 -- ---- later blocks
 

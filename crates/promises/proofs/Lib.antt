@@ -19,6 +19,7 @@ pub mod Retire
 mod Banked
 mod Skips
 pub mod Stale
+pub mod Between
 mod Taken
 pub mod Senseless
 pub mod Own

@@ -45,7 +45,7 @@ module _ (h : Handle) (x : State) (g : Good x) where
   held-says e y = ap code (rw y at (held-refused (x .session) (x .queue) (x .capture) h (g .formed) e))
 
   -- and else it is done
-  loose-says : Live h x → heldNow (x .session) (x .queue) (x .capture) h ≡ false → refusal (retire h) x ≡ 0
+  pub loose-says : Live h x → heldNow (x .session) (x .queue) (x .capture) h ≡ false → refusal (retire h) x ≡ 0
   loose-says e y = ap code (rw y at (held-refused (x .session) (x .queue) (x .capture) h (g .formed) e))
 
   is-held : Live h x → Holds h x → heldNow (x .session) (x .queue) (x .capture) h ≡ true

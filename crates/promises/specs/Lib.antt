@@ -11,6 +11,7 @@ pub mod Exchanged
 pub mod Refused
 pub mod Retire
 pub mod Stale
+pub mod Between
 pub mod Senseless
 pub mod Own
 pub mod Room

@@ -1,0 +1,225 @@
+-- A load or a retirement before a block and after it. Assumes nothing.
+use mathlib.Core.Path.{_≡_, refl, sym, ap, subst, _∙_}
+use mathlib.Core.Logic.{_⊎_, inl, inr, _≢_}
+use mathlib.Core.Bool.{true, false}
+use mathlib.Core.List.{List}
+use Prim.Native.Nat.{ℕ}
+use lib.Ieee.{Float}
+use Rattle.counts.specs.declared.Handle.{Handle}
+use Rattle.counts.proofs.Truth.{two-ways, never}
+use Rattle.bank.specs.declared.Kind.{Kind}
+use Rattle.bank.specs.declared.Bank.{Bank}
+use Rattle.bank.specs.Sample.{framesOf}
+use Rattle.bank.specs.Slots.{live, retiredFrom}
+use Rattle.bank.specs.Recording.{Recording, viewOf}
+use Rattle.session.specs.declared.Weighed.{Weighed}
+use Rattle.session.specs.declared.Answer.{Answer}
+use Rattle.session.specs.declared.Answered.{Answered}
+use Rattle.session.specs.Session.{withBank}
+use Rattle.session.specs.Answer.{Says, says, answered}
+use Rattle.session.proofs.Refuse.{unless-both}
+use Rattle.block.specs.declared.BlockAnswered.{BlockAnswered}
+use Rattle.block.specs.Block.{saysBlock, blockAnswered, weighBlock, ranOf, blockOf}
+use Rattle.clips.specs.declared.LoadAnswered.{LoadAnswered}
+use Rattle.clips.specs.Answer.{saysLoad}
+use Rattle.clips.specs.Load.{weighLoad, handleFor, loadOf}
+use Rattle.clips.specs.Retire.{heldNow, weighRetire, retireOf}
+use Rattle.clips.proofs.Held.{live-small, held-has, holder-live}
+use Rattle.clips.proofs.Loaded.{load-sounds, load-live}
+use Rattle.clips.proofs.Retired as clips
+use Rattle.promises.specs.Calls.{State, Call, load, retire, block, state, withSession, code, refusal, after, Given}
+use Rattle.promises.specs.Kept.{Good}
+use Rattle.promises.specs.Retire.{Live, Stale}
+use Rattle.promises.specs.Between.{loadSays, retireSays, EitherPlace, LoadBetween, RetireBetween, RetireParts, LoadsPart}
+use Rattle.promises.proofs.Fine.{zero-fine, both}
+use Rattle.promises.proofs.Kept.{types, settings-stay, keeps}
+use Rattle.promises.proofs.Banked.{changes, view-stays}
+use Rattle.promises.proofs.Retire.{loose-says}
+use Rattle.promises.proofs.Stale.{stale-for-good}
+
+-- ---- a block over another bank and another pool, in which every live clip sounds the same
+
+-- a state over them
+abbrev moved : State → Bank → List Float → State
+moved x b pool = state (withBank (x .session) b) (x .queue) (x .capture) pool
+
+-- what a block gives, over another bank
+abbrev over : Bank → BlockAnswered × List Float → BlockAnswered × List Float
+over b o = (blockAnswered (o .0 .answer) (withBank (o .0 .session) b), o .1)
+
+module _ (x : State) (b : Bank) (pool out : List Float) (g : Good x) (h : Good (moved x b pool))
+    (same : (k : Handle) → Live k x → viewOf (x .pool) (x .session .bank) k ≡ viewOf pool b k) where
+  ran-over : ranOf (withBank (x .session) b) (x .queue) pool (framesOf out) ≡ ranOf (x .session) (x .queue) (x .pool) (framesOf out)
+  unfolding ranOf
+  ran-over = stale-for-good .reading x (framesOf out) (viewOf pool b) g same
+
+  weighs-over : weighBlock (withBank (x .session) b) (x .queue) (x .capture) pool out ≡ weighBlock (x .session) (x .queue) (x .capture) (x .pool) out
+  unfolding weighBlock
+  weighs-over = rw (g .formed, h .formed, g .pooled, h .pooled)
+
+  block-over : blockOf (withBank (x .session) b) (x .queue) (x .capture) pool out ≡ over b (blockOf (x .session) (x .queue) (x .capture) (x .pool) out)
+  unfolding blockOf
+  block-over = rw (weighs-over, ran-over) (both (weighBlock (x .session) (x .queue) (x .capture) (x .pool) out) _ _ _ _ (λ o p. o ≡ over b p) (λ k. refl) refl)
+
+-- ---- a call that changes bank and pool alone, and a block after it
+
+module _ (out : List Float) (x : State) (g : Good x) where
+  abbrev made : State → BlockAnswered × List Float
+  made y = blockOf (y .session) (y .queue) (y .capture) (y .pool) out
+
+  -- the state after the block
+  abbrev come : State
+  come = after (block out) x
+
+  -- it leaves the bank
+  bank-left : come .session .bank ≡ x .session .bank
+  unfolding blockOf
+  bank-left = unless-both {A = BlockAnswered × List Float} _ _ _ (λ o. o .0 .session .bank ≡ x .session .bank) (λ k. refl) (λ fine. refl)
+
+  module _ (k : Call) (given : Given k) (alone : after k x ≡ moved x (after k x .session .bank) (after k x .pool)) where
+    abbrev bank : Bank
+    bank = after k x .session .bank
+
+    abbrev pool : List Float
+    pool = after k x .pool
+
+    made-after : made (after k x) ≡ over bank (made x)
+    made-after =
+        ap made alone
+        ∙ block-over x bank pool out g (subst Good alone (keeps k x given g)) (λ h l. sym (view-stays x (after k x) (g .pooled) h l (changes k x g)))
+
+    -- the block leaves what it leaves without the call, over the bank and the pool that the call left
+    left-after : after (block out) (after k x) ≡ moved come bank pool
+    left-after =
+        ap (λ (o : BlockAnswered × List Float). withSession (after k x) (o .0 .session)) made-after
+        ∙ ap (λ (y : State). withSession y (withBank (come .session) bank)) alone
+
+    -- so the call is the same in either place if, after the block, it says what it says before it, and leaves that bank and that pool
+    either-place : {A : Type 0} (callSays : State → Says A) → callSays come ≡ callSays x → after k come ≡ moved come bank pool → EitherPlace k callSays out x
+    either-place callSays said leaves =
+        record {
+          called = said;
+          played = ap (λ (o : BlockAnswered × List Float). saysBlock (o .0 .answer)) made-after;
+          samples = ap (λ (o : BlockAnswered × List Float). o .1) made-after;
+          left = left-after ∙ sym leaves;
+        }
+
+-- ---- a load
+
+module _ (samples : List Float) (kind : Kind) (rate : ℕ) (out : List Float) (x : State) (g : Good x) where
+  load-alone : after (load samples kind rate) x ≡ moved x (after (load samples kind rate) x .session .bank) (after (load samples kind rate) x .pool)
+  unfolding loadOf
+  load-alone =
+      unless-both {A = LoadAnswered × List Float} _ _ _
+      (λ o. state (o .0 .session) (x .queue) (x .capture) (o .1) ≡ moved x (o .0 .session .bank) (o .1)) (λ k. refl) (λ fine. refl)
+
+  -- it weighs the bank and the settings, and these a block leaves
+  weighs-alike : weighLoad (come out x g .session) (x .queue) (x .capture) (x .pool) samples kind rate
+      ≡ weighLoad (x .session) (x .queue) (x .capture) (x .pool) samples kind rate
+  unfolding weighLoad
+  weighs-alike = rw (g .formed, keeps (block out) x tt g .formed, settings-stay (block out) x, bank-left out x g)
+
+  -- what it gives after the block, and before it
+  abbrev Alike : LoadAnswered × List Float → LoadAnswered × List Float → Type 0
+  Alike o p =
+      (saysLoad (o .0 .answer) ≡ saysLoad (p .0 .answer))
+      × (state (o .0 .session) (x .queue) (x .capture) (o .1) ≡ moved (come out x g) (p .0 .session .bank) (p .1))
+
+  load-alike : Alike (loadOf (come out x g .session) (x .queue) (x .capture) (x .pool) samples kind rate) (loadOf (x .session) (x .queue) (x .capture) (x .pool) samples kind rate)
+  unfolding loadOf
+  load-alike =
+      let left = bank-left out x g in
+      rw weighs-alike
+      (both (weighLoad (x .session) (x .queue) (x .capture) (x .pool) samples kind rate) _ _ _ _ Alike
+      (λ k. (refl, ap (λ (b : Bank). moved (come out x g) b (x .pool)) left)) (rw left, rw (left, settings-stay (block out) x)))
+
+pub load-between : LoadBetween
+load-between samples kind rate out x g =
+    let alike = load-alike samples kind rate out x g in
+    either-place out x g (load samples kind rate) tt (load-alone samples kind rate out x g) (loadSays samples kind rate) (alike .0) (alike .1)
+
+-- ---- a retirement
+
+module _ (h : Handle) (x : State) (accepts : refusal (retire h) x ≡ 0) where
+  fine : weighRetire (x .session) (x .queue) (x .capture) h ≡ Weighed.Fine
+  unfolding retireOf
+  fine = zero-fine {A = Answered} _ _ _ (λ a. code (says (a .answer))) (λ k. refl) accepts
+
+  done : retireOf (x .session) (x .queue) (x .capture) h ≡ answered Answer.Done (withBank (x .session) (retiredFrom (x .session .bank) h))
+  done = clips.retire-done (x .session) (x .queue) (x .capture) h fine
+
+  was-live : Live h x
+  was-live = clips.accepted (x .session) (x .queue) (x .capture) h fine .alive
+
+  goes-stale : Stale h (after (retire h) x)
+  goes-stale = clips.retired-stale (x .session) (x .queue) (x .capture) h fine
+
+module _ (h : Handle) (out : List Float) (x : State) (g : Good x) where
+  retire-alone : after (retire h) x ≡ moved x (after (retire h) x .session .bank) (after (retire h) x .pool)
+  unfolding retireOf
+  retire-alone = unless-both {A = Answered} _ _ _ (λ a. withSession x (a .session) ≡ moved x (a .session .bank) (x .pool)) (λ k. refl) (λ fine. refl)
+
+  module _ (accepts : refusal (retire h) x ≡ 0) where
+    -- the block without the clip leaves a good state, in which nothing holds a stale handle: so nothing holds this one after the block
+    loose : heldNow (come out x g .session) (x .queue) (x .capture) h ≡ false
+    unfolding heldNow
+    loose = go (two-ways (heldNow (come out x g .session) (x .queue) (x .capture) h))
+      where
+        without : State
+        without = moved (come out x g) (after (retire h) x .session .bank) (x .pool)
+
+        good : Good without
+        good = subst Good (left-after out x g (retire h) tt retire-alone) (keeps (block out) (after (retire h) x) tt (keeps (retire h) x tt g))
+
+        go : (heldNow (come out x g .session) (x .queue) (x .capture) h ≡ true) ⊎ (heldNow (come out x g .session) (x .queue) (x .capture) h ≡ false)
+            → heldNow (come out x g .session) (x .queue) (x .capture) h ≡ false
+        go (inl e) =
+            let small = live-small (x .session) (x .queue) (x .capture) (g .formed) (types x g) h (was-live h x accepts) in
+            let held = held-has h (without .session) (x .queue) (x .capture) small e in
+            absurd (never (sym (holder-live h (without .session) (x .queue) (x .capture) (good .formed) held) ∙ goes-stale h x accepts))
+        go (inr e) = e
+
+    accepts-after : refusal (retire h) (come out x g) ≡ 0
+    accepts-after = loose-says h (come out x g) (keeps (block out) x tt g) (rw (bank-left out x g) (was-live h x accepts)) loose
+
+    retire-leaves : after (retire h) (come out x g) ≡ moved (come out x g) (after (retire h) x .session .bank) (x .pool)
+    retire-leaves = rw (done h (come out x g) accepts-after, done h x accepts, bank-left out x g)
+
+pub retire-between : RetireBetween
+retire-between h out x g accepts =
+    either-place out x g (retire h) tt (retire-alone h out x g) (retireSays h)
+    (rw (done h (after (block out) x) (accepts-after h out x g accepts), done h x accepts)) (retire-leaves h out x g accepts)
+
+-- ---- where the places differ
+
+-- a refused retirement leaves everything
+refused-stays : (h : Handle) (x : State) → refusal (retire h) x ≢ 0 → after (retire h) x ≡ x
+unfolding retireOf
+refused-stays h x refused =
+    unless-both {A = Answered} _ _ _ (λ a. code (says (a .answer)) ≢ 0 → withSession x (a .session) ≡ x) (λ k r. refl) (λ fine r. absurd (r refl)) refused
+
+-- so its clip is live after both, and stale if it is retired after the block
+pub retire-parts : RetireParts
+retire-parts h out x refused accepts e =
+    let same : after (block out) x ≡ after (retire h) (after (block out) x) = ap (after (block out)) (sym (refused-stays h x refused)) ∙ e in
+    never (sym (was-live h (after (block out) x) accepts) ∙ ap (λ (y : State). live (y .session .bank) h) same ∙ goes-stale h (after (block out) x) accepts)
+
+-- the first of two loads has the next handle, and keeps it after the second
+first-stands : (samples others : List Float) (kind its : Kind) (rate at : ℕ) (x : State) → Good x → refusal (load samples kind rate) x ≡ 0
+    → let y : State = after (load others its at) (after (load samples kind rate) x) in viewOf (y .pool) (y .session .bank) (handleFor (x .session)) .samples ≡ samples
+unfolding loadOf
+first-stands samples others kind its rate at x g accepts =
+    let y : State = after (load samples kind rate) x in
+    let good : Good y = keeps (load samples kind rate) x tt g in
+    let fine : weighLoad (x .session) (x .queue) (x .capture) (x .pool) samples kind rate ≡ Weighed.Fine = zero-fine {A = LoadAnswered × List Float} _ _ _ (λ o. code (saysLoad (o .0 .answer))) (λ k. refl) accepts in
+    let alive = load-live (x .session) (x .queue) (x .capture) (x .pool) samples kind rate fine (types x g) in
+    ap (λ (r : Recording). r .samples)
+    (view-stays y (after (load others its at) y) (good .pooled) (handleFor (x .session)) alive (changes (load others its at) y good)
+    ∙ load-sounds (x .session) (x .queue) (x .capture) (x .pool) samples kind rate fine (types x g))
+
+-- whichever it is
+pub loads-part : LoadsPart
+loads-part samples others kind its rate at x g first second apart e =
+    apart (sym (first-stands samples others kind its rate at x g first)
+    ∙ ap (λ (y : State). viewOf (y .pool) (y .session .bank) (handleFor (x .session)) .samples) e
+    ∙ first-stands others samples its kind at rate x g second)
