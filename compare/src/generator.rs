@@ -5,6 +5,7 @@
 
 use threshreed::raw::{At, Clip, Command, Handle, Ramp, Session};
 
+use crate::between::{self, Load, Made};
 use crate::both::{Both, Difference};
 use crate::dice::Dice;
 use crate::domain::Walk;
@@ -13,8 +14,8 @@ use crate::ours::{Row, handle_word};
 use crate::reached::{Moment, Reached};
 use crate::runtime::SCRATCH_FRAMES;
 use crate::script::{
-    CAPTURE, Call, Material, NOW, POOL, QUEUE, RATE, SONG, STINGER, at_frame, at_song, kind, plain,
-    state,
+    Answer, CAPTURE, Call, Material, NOW, POOL, QUEUE, RATE, SONG, STINGER, at_frame, at_song,
+    kind, plain, state,
 };
 use crate::undo;
 
@@ -59,6 +60,7 @@ pub fn play(seed: u64, size: Size, lines: bool) -> Result<Played, Difference> {
         mood: mood(&mut dice, size),
         dice,
         cuts: Dice::new(!seed),
+        beside: Dice::new(seed + (1 << 32)),
         size,
         loads: 1,
         retired: Vec::new(),
@@ -79,6 +81,8 @@ struct Player {
     dice: Dice,
     /// Decides where blocks are cut and which snapshots the laws are looked at with, and nothing of the session.
     cuts: Dice,
+    /// Decides which loads and retirements are tried beside blocks, and nothing of the session.
+    beside: Dice,
     mood: Mood,
     size: Size,
     /// The clips loaded so far. Each clip has a seed of its own.
@@ -217,7 +221,10 @@ impl Player {
         }
         self.passes += answer.passes();
         self.check_laps(&call, before.session.laps);
-        self.check_laws();
+        self.check_undo();
+        if matches!(call, Call::Block(_)) && self.beside.one_in(4) {
+            self.check_between(before.session, &answer);
+        }
         let after = Moment::of(&self.both.ours);
         self.reached
             .see(&call, &answer, &before, &after, &pieces, &self.retired);
@@ -243,13 +250,33 @@ impl Player {
     }
 
     /// The laws of any two snapshots hold where the session stands as tono, and where it does in house mode.
-    fn check_laws(&mut self) {
+    fn check_undo(&mut self) {
         let ours = &self.both.ours;
         let s = undo::any(ours, &mut self.cuts);
         let t = undo::any(ours, &mut self.cuts);
         let met = undo::laws(ours, s, t);
-        assert_eq!(self.house.laws(s, t), met, "other laws in house mode");
-        self.reached.see_laws(&met);
+        assert_eq!(self.house.undo(s, t), met, "other laws in house mode");
+        self.reached.see_undo(&met);
+    }
+
+    /// The laws of any load and any retirement beside a block hold where the session stands as tono, and where it does in
+    /// house mode.
+    fn check_between(&mut self, begun: Session, answer: &Answer) {
+        let ours = &self.both.ours;
+        let load = Load::any(&mut self.beside);
+        let clip = between::any_handle(ours, &mut self.beside);
+        let made = Made {
+            ours,
+            begun,
+            answer,
+        };
+        let met = made.laws(&load, clip);
+        assert_eq!(
+            self.house.between(&load, clip),
+            met,
+            "other laws in house mode"
+        );
+        self.reached.see_between(&met);
     }
 
     /// A block, as long as the domain allows. Where it allows none, the song is stopped first, and where

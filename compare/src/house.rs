@@ -6,13 +6,17 @@ use std::collections::HashMap;
 
 use threshreed::raw::{Handle, Loop, Ramp, Session, Snapshot};
 
+use crate::between::{self, Load, Made};
 use crate::dice::Dice;
 use crate::ours::Ours;
 use crate::script::{Answer, Call, Material, mode, state};
-use crate::undo::{self, Met};
+use crate::undo;
 
 pub struct House {
     ours: Ours,
+    /// The session before the last call, and what that answered.
+    begun: Session,
+    answer: Answer,
     /// The samples of each clip that was loaded, as they are heard.
     clips: HashMap<Handle, Vec<f32>>,
     ahead: Ahead,
@@ -35,9 +39,11 @@ pub struct Otherwise {
 
 impl House {
     pub fn open(rate: u32, song: Material) -> House {
-        let (ours, _) = Ours::open(mode::HOUSE, rate, song);
+        let (ours, answer) = Ours::open(mode::HOUSE, rate, song);
         House {
             clips: HashMap::from([(ours.session.song, song.samples())]),
+            begun: ours.session,
+            answer,
             ours,
             ahead: Ahead::default(),
         }
@@ -81,6 +87,7 @@ impl House {
         assert!(!song || span.song_may_part() && !applied, "the song strays");
         assert!(!tail || span.tail_may_part(), "the tail strays");
         assert!(!samples || span.may_be_heard(), "the samples stray");
+        (self.begun, self.answer) = (begun, answer);
         Otherwise {
             samples,
             cursors: song || tail,
@@ -93,8 +100,18 @@ impl House {
     }
 
     /// Looks at the laws of two snapshots where the session stands.
-    pub fn laws(&self, s: Snapshot, t: Snapshot) -> Met {
+    pub fn undo(&self, s: Snapshot, t: Snapshot) -> undo::Met {
         undo::laws(&self.ours, s, t)
+    }
+
+    /// Looks at the laws of a load and a retirement beside the last call, a block.
+    pub fn between(&self, load: &Load, clip: Handle) -> between::Met {
+        let made = Made {
+            ours: &self.ours,
+            begun: self.begun,
+            answer: &self.answer,
+        };
+        made.laws(load, clip)
     }
 
     /// Panics unless the song's cursor is at the playhead, or both are past its clip.

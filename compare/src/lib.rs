@@ -5,9 +5,9 @@
 //! [`both`] plays a call on [`ours`] and on [`theirs`] and compares the answers and how the two then stand;
 //! [`script`] says what a call and an answer are. [`generator`] makes random sessions inside [`domain`], and
 //! each block of ours in pieces too; [`house`] plays them in house mode, which the Rust does not have. [`undo`]
-//! looks at the laws of snapshots in both modes after each call. [`reached`] counts what they reach, and
-//! [`list`] writes the fixed list of the Rust's answers. [`faults`] are planted into a copy of the Rust to show
-//! that the comparison sees them.
+//! looks at the laws of snapshots in both modes after each call, [`between`] at those of a load and a
+//! retirement beside a block. [`reached`] counts what they reach, and [`list`] writes the fixed list of the
+//! Rust's answers. [`faults`] are planted into a copy of the Rust to show that the comparison sees them.
 //!
 //! - `cargo test`: document 01's numbers on the Rust, the differences on both, the declick at every rate, the
 //!   passes of a loop and snapshots one after the other on both, spoiled sessions through the static library,
@@ -16,6 +16,7 @@
 //! - `cargo run --release --bin answers`: writes the fixed list.
 //! - `cargo run --release --bin speed`: how fast both are; `compare/instructions` counts instructions instead.
 
+pub mod between;
 pub mod both;
 pub mod clip;
 pub mod dice;

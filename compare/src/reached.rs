@@ -5,10 +5,11 @@ use std::ops::AddAssign;
 
 use threshreed::raw::{Session, Snapshot, Voice};
 
+use crate::between;
 use crate::house::Otherwise;
 use crate::ours::{Ours, Row};
 use crate::script::{Answer, Call, kind, state};
-use crate::undo::{LAWS, Met};
+use crate::undo;
 
 /// The situations, in the order in which they are counted.
 const NAMES: [&str; 44] = [
@@ -64,13 +65,14 @@ const LISTED: usize = 18;
 /// At most so many frames are few.
 const FEW: u64 = 8;
 
-/// A count for each situation, for each way in which a law of snapshots is met, and of the calls, the frames, the
-/// samples that were not silent, the passes, the senseless loops, the blocks that sound otherwise in house mode and
-/// those that leave its cursors otherwise.
+/// A count for each situation, for each way in which a law of snapshots or of what comes between blocks is met, and of the
+/// calls, the frames, the samples that were not silent, the passes, the senseless loops, the blocks that sound otherwise
+/// in house mode and those that leave its cursors otherwise.
 #[derive(Clone, Copy)]
 pub struct Reached {
     situations: [u64; NAMES.len()],
-    laws: [u64; LAWS.len()],
+    undo: [u64; undo::LAWS.len()],
+    between: [u64; between::LAWS.len()],
     calls: u64,
     frames: u64,
     sounding: u64,
@@ -195,7 +197,8 @@ impl Default for Reached {
     fn default() -> Reached {
         Reached {
             situations: [0; NAMES.len()],
-            laws: [0; LAWS.len()],
+            undo: [0; undo::LAWS.len()],
+            between: [0; between::LAWS.len()],
             calls: 0,
             frames: 0,
             sounding: 0,
@@ -311,9 +314,7 @@ impl Reached {
                 .is_some_and(|x| x.looped.set == 1 && is_senseless(x.looped.start, x.looped.end)),
             applied.is_some() && is.laps > 0,
         ];
-        for (count, seen) in self.situations.iter_mut().zip(seen) {
-            *count += u64::from(seen);
-        }
+        count(&mut self.situations, &seen);
         self.calls += 1;
         self.senseless += u64::from(looped.is_some_and(|x| is_senseless(x.frame, x.end)));
         self.passes += passes;
@@ -330,10 +331,13 @@ impl Reached {
     }
 
     /// Looks at how the laws of snapshots were met, in both modes.
-    pub fn see_laws(&mut self, met: &Met) {
-        for (count, met) in self.laws.iter_mut().zip(met) {
-            *count += u64::from(*met);
-        }
+    pub fn see_undo(&mut self, met: &undo::Met) {
+        count(&mut self.undo, met);
+    }
+
+    /// Looks at how the laws of what comes between blocks were met, in both modes.
+    pub fn see_between(&mut self, met: &between::Met) {
+        count(&mut self.between, met);
     }
 
     /// How many blocks sound otherwise in house mode.
@@ -353,12 +357,30 @@ impl Reached {
 
     /// The situations that were never reached, and how the laws were never met.
     pub fn missing(&self) -> Vec<&'static str> {
-        [never(&NAMES, &self.situations), never(&LAWS, &self.laws)].concat()
+        [
+            never(&NAMES, &self.situations),
+            never(&undo::LAWS, &self.undo),
+            never(&between::LAWS, &self.between),
+        ]
+        .concat()
     }
 
     /// The situations that the fixed list must reach and does not.
     pub fn missing_in_list(&self) -> Vec<&'static str> {
         never(&NAMES[..LISTED], &self.situations)
+    }
+}
+
+/// One more for each that was seen.
+fn count(counts: &mut [u64], seen: &[bool]) {
+    for (count, seen) in counts.iter_mut().zip(seen) {
+        *count += u64::from(*seen);
+    }
+}
+
+fn add(counts: &mut [u64], more: &[u64]) {
+    for (count, more) in counts.iter_mut().zip(more) {
+        *count += more;
     }
 }
 
@@ -371,12 +393,9 @@ fn never(names: &[&'static str], counts: &[u64]) -> Vec<&'static str> {
 
 impl AddAssign for Reached {
     fn add_assign(&mut self, more: Reached) {
-        for (count, more) in self.situations.iter_mut().zip(more.situations) {
-            *count += more;
-        }
-        for (count, more) in self.laws.iter_mut().zip(more.laws) {
-            *count += more;
-        }
+        add(&mut self.situations, &more.situations);
+        add(&mut self.undo, &more.undo);
+        add(&mut self.between, &more.between);
         self.calls += more.calls;
         self.frames += more.frames;
         self.sounding += more.sounding;
@@ -407,7 +426,9 @@ impl fmt::Display for Reached {
         for (name, count) in NAMES.into_iter().zip(self.situations) {
             writeln!(f, "{count:>10}  {name}")?;
         }
-        for (name, count) in LAWS.into_iter().zip(self.laws) {
+        let undo = undo::LAWS.into_iter().zip(self.undo);
+        let between = between::LAWS.into_iter().zip(self.between);
+        for (name, count) in undo.chain(between) {
             writeln!(f, "{count:>10}  {name}, in both modes")?;
         }
         Ok(())

@@ -290,6 +290,56 @@ static void undo(void)
     }
 }
 
+/* A block of a host, into its own output. */
+static uint64_t block(Host *h)
+{
+    uint64_t passes;
+    EXPECT(tr_block(&h->t, h->out, LEN(h->out), &passes) == 0);
+    return passes;
+}
+
+/* The same session, the same stores and the same sound. */
+static bool alike(const Host *a, const Host *b)
+{
+    return unchanged(a, b) && memcmp(a->out, b->out, sizeof a->out) == 0;
+}
+
+/* A load and a retirement before a block and after it. */
+static void between_blocks(void)
+{
+    static Host host, other;
+    ThreshreedHandle clip, its, bell;
+    for (uint32_t mode = THRESHREED_AS_TONO; mode <= THRESHREED_HOUSE; mode += 1) {
+        go_round(&host, mode);
+        go_round(&other, mode);
+        EXPECT(tr_load_song(&host.t, old, LEN(old), 48000, 2, &clip) == 0 && block(&host) == 2);
+        EXPECT(block(&other) == 2 && tr_load_song(&other.t, old, LEN(old), 48000, 2, &its) == 0);
+        EXPECT(clip.slot == its.slot && clip.serial == its.serial && alike(&host, &other));
+
+        EXPECT(tr_retire(&host.t, clip) == 0 && block(&host) == 2);
+        EXPECT(block(&other) == 2 && tr_retire(&other.t, clip) == 0);
+        EXPECT(alike(&host, &other));
+
+        /* Its last frame is in the block: before it, it is held, and goes after it alone. */
+        EXPECT(tr_load_stinger(&host.t, old, LEN(old), 48000, &bell) == 0);
+        EXPECT(tr_load_stinger(&other.t, old, LEN(old), 48000, &its) == 0);
+        EXPECT(tr_submit(&host.t, tr_stinger(bell, 1.0f), tr_now()) == 0);
+        EXPECT(tr_submit(&other.t, tr_stinger(its, 1.0f), tr_now()) == 0);
+        EXPECT(tr_retire(&host.t, bell) == THRESHREED_HELD && block(&host) == 2);
+        EXPECT(block(&other) == 2 && tr_retire(&other.t, bell) == 0);
+        EXPECT(memcmp(host.out, other.out, sizeof host.out) == 0 && !alike(&host, &other));
+
+        /* The first of two loads takes the lower slot, whichever it is. */
+        go_round(&host, mode);
+        go_round(&other, mode);
+        EXPECT(tr_load_song(&host.t, old, LEN(old), 48000, 2, &clip) == 0);
+        EXPECT(tr_load_song(&host.t, pair, LEN(pair), 48000, 2, NULL) == 0);
+        EXPECT(tr_load_song(&other.t, pair, LEN(pair), 48000, 2, &its) == 0);
+        EXPECT(tr_load_song(&other.t, old, LEN(old), 48000, 2, NULL) == 0);
+        EXPECT(clip.slot == its.slot && clip.serial == its.serial && !alike(&host, &other));
+    }
+}
+
 /* NULL for a result that is not wanted. */
 static void unwanted_results(void)
 {
@@ -321,6 +371,7 @@ int main(void)
     modes();
     past_its_loop();
     undo();
+    between_blocks();
     unwanted_results();
 
     /* Nothing is lent. */

@@ -567,7 +567,11 @@ static inline uint32_t tr_load(Threshreed *t, const float *samples, size_t sampl
 }
 
 /* Loads a song of a length into the lowest free slot and the lowest room in the pool where it fits. The handle is
- * written if it is loaded, as is every result below if the call is not refused. */
+ * written if it is loaded, as is every result below if the call is not refused.
+ *
+ * Rooms may stream in while the score plays, in both modes: before a block and after it a load gives the same, its
+ * answer and its handle, what the block answers, the samples, the session and the pool. Two loads do not: the first
+ * takes the lower slot, whichever it is. */
 static inline uint32_t tr_load_song(Threshreed *t, const float *samples, size_t samples_len, uint32_t rate,
                                     uint64_t length, ThreshreedHandle *handle)
 {
@@ -581,7 +585,10 @@ static inline uint32_t tr_load_stinger(Threshreed *t, const float *samples, size
     return tr_load(t, samples, samples_len, THRESHREED_CLIP_STINGER, 0, rate, handle);
 }
 
-/* Retires a clip that neither song, tail, voice, queue nor running capture holds. Its slot and its room are free. */
+/* Retires a clip that neither song, tail, voice, queue nor running capture holds. Its slot and its room are free.
+ *
+ * A clip that may be retired before a block may be after it, and both give the same, as with a load. One that the block
+ * sets free goes after it alone. */
 static inline uint32_t tr_retire(Threshreed *t, ThreshreedHandle clip)
 {
     ThreshreedAnswered r =

@@ -29,7 +29,8 @@
 //! plays as tono does, or in house mode, where a swap's tail is under the master gain and the song sounds where the
 //! playhead is ([`Mode`]).
 //!
-//! `examples/tour.rs` plays two minutes to a WAV file, `examples/told.rs` prints what each command did.
+//! `examples/tour.rs` plays two minutes to a WAV file, `examples/told.rs` prints what each command did, and
+//! `examples/streaming.rs` walks through eight rooms with a pool for two.
 
 #![no_std]
 

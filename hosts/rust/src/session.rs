@@ -172,6 +172,25 @@ impl<'a> Session<'a> {
     }
 
     /// Loads a song into the lowest free slot and the lowest room in the pool where it fits.
+    ///
+    /// Rooms may stream in while the score plays, in both modes: before a block and after it a load gives the same, its
+    /// answer and its handle, what the block answers, the samples, the session and the pool (`examples/streaming.rs`).
+    /// Two loads do not: the first takes the lower slot, whichever it is.
+    ///
+    /// ```
+    /// use threshreed::{Handle, Refusal, Song, Stores};
+    ///
+    /// fn load(clips: [&[f32]; 2]) -> Result<[Handle; 2], Refusal> {
+    ///     let mut stores = Stores::<8, 0, 8>::new();
+    ///     let mut session = stores.open(48_000, Song::new(&[0.5, -0.5], 48_000))?;
+    ///     let [first, second] = clips.map(|clip| session.load_song(Song::new(clip, 48_000)));
+    ///     Ok([first?, second?])
+    /// }
+    ///
+    /// let (hall, cellar): ([f32; 2], [f32; 4]) = ([0.25; 2], [0.75; 4]);
+    /// assert_eq!(load([&hall, &cellar])?, load([&cellar, &hall])?);
+    /// # Ok::<(), Refusal>(())
+    /// ```
     pub fn load_song(&mut self, song: Song<'_>) -> Result<Handle, Refusal> {
         self.load(song.samples, SONG, song.length, song.rate)
     }
@@ -204,6 +223,9 @@ impl<'a> Session<'a> {
     }
 
     /// Retires a clip that neither song, tail, voice, queue nor running capture holds. Its slot and its room are free.
+    ///
+    /// A clip that may be retired before a block may be after it, and both give the same, as with a load. One that the
+    /// block sets free goes after it alone.
     ///
     /// ```
     /// use threshreed::{Refusal, Song, Stinger, Stores};
