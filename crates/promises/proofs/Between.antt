@@ -205,21 +205,22 @@ retire-parts h out x refused accepts e =
     never (sym (was-live h (after (block out) x) accepts) ∙ ap (λ (y : State). live (y .session .bank) h) same ∙ goes-stale h (after (block out) x) accepts)
 
 -- the first of two loads has the next handle, and keeps it after the second
-first-stands : (samples others : List Float) (kind its : Kind) (rate at : ℕ) (x : State) → Good x → refusal (load samples kind rate) x ≡ 0
-    → let y : State = after (load others its at) (after (load samples kind rate) x) in viewOf (y .pool) (y .session .bank) (handleFor (x .session)) .samples ≡ samples
+first-stands : (a b : List Float) (kindA kindB : Kind) (rateA rateB : ℕ) (x : State) → Good x → refusal (load a kindA rateA) x ≡ 0
+    → let y : State = after (load b kindB rateB) (after (load a kindA rateA) x) in viewOf (y .pool) (y .session .bank) (handleFor (x .session)) .samples ≡ a
 unfolding loadOf
-first-stands samples others kind its rate at x g accepts =
-    let y : State = after (load samples kind rate) x in
-    let good : Good y = keeps (load samples kind rate) x tt g in
-    let fine : weighLoad (x .session) (x .queue) (x .capture) (x .pool) samples kind rate ≡ Weighed.Fine = zero-fine {A = LoadAnswered × List Float} _ _ _ (λ o. code (saysLoad (o .0 .answer))) (λ k. refl) accepts in
-    let alive = load-live (x .session) (x .queue) (x .capture) (x .pool) samples kind rate fine (types x g) in
+first-stands a b kindA kindB rateA rateB x g accepts =
+    let y : State = after (load a kindA rateA) x in
+    let good : Good y = keeps (load a kindA rateA) x tt g in
+    let fine : weighLoad (x .session) (x .queue) (x .capture) (x .pool) a kindA rateA ≡ Weighed.Fine =
+    zero-fine {A = LoadAnswered × List Float} _ _ _ (λ o. code (saysLoad (o .0 .answer))) (λ k. refl) accepts in
+    let alive = load-live (x .session) (x .queue) (x .capture) (x .pool) a kindA rateA fine (types x g) in
     ap (λ (r : Recording). r .samples)
-    (view-stays y (after (load others its at) y) (good .pooled) (handleFor (x .session)) alive (changes (load others its at) y good)
-    ∙ load-sounds (x .session) (x .queue) (x .capture) (x .pool) samples kind rate fine (types x g))
+    (view-stays y (after (load b kindB rateB) y) (good .pooled) (handleFor (x .session)) alive (changes (load b kindB rateB) y good)
+    ∙ load-sounds (x .session) (x .queue) (x .capture) (x .pool) a kindA rateA fine (types x g))
 
 -- whichever it is
 pub loads-part : LoadsPart
-loads-part samples others kind its rate at x g first second apart e =
-    apart (sym (first-stands samples others kind its rate at x g first)
+loads-part a b kindA kindB rateA rateB x g first second apart e =
+    apart (sym (first-stands a b kindA kindB rateA rateB x g first)
     ∙ ap (λ (y : State). viewOf (y .pool) (y .session .bank) (handleFor (x .session)) .samples) e
-    ∙ first-stands others samples its kind at rate x g second)
+    ∙ first-stands b a kindB kindA rateB rateA x g second)

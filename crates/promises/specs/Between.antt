@@ -27,11 +27,11 @@ loadSays samples kind rate x = saysLoad (loadOf (x .session) (x .queue) (x .capt
 abbrev pub retireSays : Handle → State → Says (Unit {0})
 retireSays h x = says (retireOf (x .session) (x .queue) (x .capture) h .answer)
 
--- a call gives the same before a block and after it, and the block beside it
+-- a call before a block and after it
 pub record EitherPlace {A : Type 0} (call : Call) (callSays : State → Says A) (out : List Float) (x : State) : Type 0 where
   -- the call says the same in either place,
   pub called : callSays (after (block out) x) ≡ callSays x
-  -- the block too, which may be refused,
+  -- and so does the block, which may be refused;
   pub played : blockSays out (after call x) ≡ blockSays out x
   -- its samples are the same,
   pub samples : outOf (after call x) out ≡ outOf x out
@@ -55,5 +55,5 @@ RetireParts =
 -- and two loads are not in either order: the first takes the lower slot, whichever it is
 abbrev pub LoadsPart : Type 0
 LoadsPart =
-    (samples others : List Float) (kind its : Kind) (rate at : ℕ) (x : State) → Good x → refusal (load samples kind rate) x ≡ 0 → refusal (load others its at) x ≡ 0
-    → samples ≢ others → after (load others its at) (after (load samples kind rate) x) ≢ after (load samples kind rate) (after (load others its at) x)
+    (a b : List Float) (kindA kindB : Kind) (rateA rateB : ℕ) (x : State) → Good x → refusal (load a kindA rateA) x ≡ 0 → refusal (load b kindB rateB) x ≡ 0 → a ≢ b
+    → after (load b kindB rateB) (after (load a kindA rateA) x) ≢ after (load a kindA rateA) (after (load b kindB rateB) x)
