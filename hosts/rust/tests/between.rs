@@ -1,6 +1,10 @@
 //! A load or a retirement before a block and after it, in both modes: what each answers, the samples, and the session and
 //! the stores that they leave.
 
+#[path = "common/noise.rs"]
+mod noise;
+
+use noise::noise;
 use threshreed::WORDS;
 use threshreed::raw::{self, At, Blocked, Command, Handle, Session, Settings};
 
@@ -46,16 +50,6 @@ struct Told {
 
 fn bits(samples: &[f32]) -> Vec<u32> {
     samples.iter().map(|x| x.to_bits()).collect()
-}
-
-/// A clip whose samples have no pattern.
-fn noise(seed: u32, frames: usize) -> Vec<f32> {
-    let mut word = seed;
-    let sample = |_| {
-        word = word.wrapping_mul(1_664_525).wrapping_add(1_013_904_223);
-        (word >> 8) as f32 / 16_777_216.0 - 0.5
-    };
-    (0..2 * frames).map(sample).collect()
 }
 
 impl Stand {

@@ -1,5 +1,9 @@
 //! Both modes: a swap's tail, sample by sample beside plain arithmetic, and a song whose position is past its loop.
 
+#[path = "common/noise.rs"]
+mod noise;
+
+use noise::noise;
 use threshreed::{
     At, ClockFrame, Command, LoopRange, Mode, Snapshot, Song, SongFrame, Stinger, Stores,
 };
@@ -24,25 +28,17 @@ const MASTERS: [(f32, f32); 8] = [
     (2.0, 0.0),
 ];
 
-/// A clip whose samples have no pattern.
-fn noise(seed: u32) -> Vec<f32> {
-    let mut word = seed;
-    let sample = |_| {
-        word = word.wrapping_mul(1_664_525).wrapping_add(1_013_904_223);
-        (word >> 8) as f32 / 16_777_216.0 - 0.5
-    };
-    (0..2 * FRAMES).map(sample).collect()
-}
-
 /// What blocks of these lengths sound as: from the first frame on a swap, and a bell over it.
 fn heard(mode: Mode, (from, to): (f32, f32), lengths: &[usize]) -> Vec<u32> {
     let mut stores = Stores::<8, 0, { 3 * FRAMES }>::new();
-    let room = noise(1);
+    let room = noise(1, FRAMES);
     let mut session = stores.open_in(mode, RATE, Song::new(&room, RATE)).unwrap();
     assert_eq!(session.mode(), mode);
-    let hall = session.load_song(Song::new(&noise(2), RATE)).unwrap();
+    let hall = session
+        .load_song(Song::new(&noise(2, FRAMES), RATE))
+        .unwrap();
     let bell = Stinger {
-        samples: &noise(3),
+        samples: &noise(3, FRAMES),
         rate: RATE,
     };
     let bell = session.load_stinger(bell).unwrap();
@@ -69,7 +65,7 @@ fn heard(mode: Mode, (from, to): (f32, f32), lengths: &[usize]) -> Vec<u32> {
 
 /// The same by the rules: song × g, plus the tail's share, plus the bell.
 fn expected((from, to): (f32, f32), share: fn(f32, f32, f32) -> f32) -> Vec<u32> {
-    let (room, hall, bell) = (noise(1), noise(2), noise(3));
+    let (room, hall, bell) = (noise(1, FRAMES), noise(2, FRAMES), noise(3, FRAMES));
     let step = (to - from) / 256.0;
     let mut g = from;
     let mut samples = Vec::new();

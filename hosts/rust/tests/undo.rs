@@ -1,6 +1,10 @@
 //! Snapshots one after the other, as an undo button applies them, in both modes: what a session tells after them, and
 //! how it sounds from there.
 
+#[path = "common/noise.rs"]
+mod noise;
+
+use noise::noise;
 use threshreed::{
     At, ClockFrame, Command, LoopRange, Metrics, Mode, Refusal, Session, Snapshot, Song, SongFrame,
     State, Stinger, Stores,
@@ -14,16 +18,6 @@ const LENGTH: usize = 32;
 const MODES: [Mode; 2] = [Mode::AsTono, Mode::House];
 
 type Small = Stores<8, 0, 256>;
-
-/// A clip whose samples have no pattern.
-fn noise(seed: u32, frames: usize) -> Vec<f32> {
-    let mut word = seed;
-    let sample = |_| {
-        word = word.wrapping_mul(1_664_525).wrapping_add(1_013_904_223);
-        (word >> 8) as f32 / 16_777_216.0 - 0.5
-    };
-    (0..2 * frames).map(sample).collect()
-}
 
 /// The second song plays in a loop from 0 to 10 that has come round three times, last from past its end, so that as tono
 /// it sounds behind the playhead. The first is its tail, a bell sounds, the master rides, and a play waits.
