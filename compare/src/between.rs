@@ -53,7 +53,7 @@ impl Load {
         }
     }
 
-    fn into(&self, session: Session, ours: &Ours, pool: &mut [f32]) -> raw::Loaded {
+    fn call(&self, session: Session, ours: &Ours, pool: &mut [f32]) -> raw::Loaded {
         let Load {
             samples,
             kind,
@@ -93,8 +93,8 @@ impl Made<'_> {
     pub fn laws(&self, load: &Load, clip: Handle) -> Met {
         let Made { ours, begun, .. } = *self;
         let (mut pool, mut its) = (ours.pool.clone(), ours.pool.clone());
-        let before = load.into(begun, ours, &mut pool);
-        let after = load.into(ours.session, ours, &mut its);
+        let before = load.call(begun, ours, &mut pool);
+        let after = load.call(ours.session, ours, &mut its);
         assert_eq!(before.refusal, after.refusal, "a load is weighed otherwise");
         assert_eq!(before.handle, after.handle, "a load has another handle");
         assert!(bits(&pool).eq(bits(&its)), "a load leaves another pool");

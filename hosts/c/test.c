@@ -320,6 +320,17 @@ static void between_blocks(void)
         EXPECT(block(&other) == 2 && tr_retire(&other.t, clip) == 0);
         EXPECT(alike(&host, &other));
 
+        /* A load that is refused, and a block that is. */
+        EXPECT(tr_load_song(&host.t, seven, LEN(seven), 48000, 4, NULL) == THRESHREED_ODD_SAMPLES);
+        EXPECT(block(&host) == 2 && block(&other) == 2);
+        EXPECT(tr_load_song(&other.t, seven, LEN(seven), 48000, 4, NULL) == THRESHREED_ODD_SAMPLES);
+        EXPECT(alike(&host, &other));
+        EXPECT(tr_load_song(&host.t, old, LEN(old), 48000, 2, NULL) == 0);
+        EXPECT(tr_block(&host.t, host.out, 3, NULL) == THRESHREED_ODD_SAMPLES);
+        EXPECT(tr_block(&other.t, other.out, 3, NULL) == THRESHREED_ODD_SAMPLES);
+        EXPECT(tr_load_song(&other.t, old, LEN(old), 48000, 2, NULL) == 0);
+        EXPECT(alike(&host, &other));
+
         /* Its last frame is in the block: before it, it is held, and goes after it alone. */
         EXPECT(tr_load_stinger(&host.t, old, LEN(old), 48000, &bell) == 0);
         EXPECT(tr_load_stinger(&other.t, old, LEN(old), 48000, &its) == 0);

@@ -59,7 +59,6 @@ enum When {
 }
 
 /// What happened to a clip, and when.
-#[derive(Clone, Copy, Debug, PartialEq)]
 struct Event {
     clock: u64,
     what: &'static str,
@@ -81,14 +80,12 @@ impl Walk<'_> {
     fn load(&mut self) -> Result<(), Refusal> {
         let n = self.clips.len();
         let room = &self.rooms[n / 2];
-        let clip = if n % 2 == 0 {
-            self.session.load_song(Song::new(&room.song, RATE))?
-        } else {
-            let samples = &room.bell;
-            self.session.load_stinger(Stinger {
-                samples,
+        let clip = match n % 2 {
+            0 => self.session.load_song(Song::new(&room.song, RATE))?,
+            _ => self.session.load_stinger(Stinger {
+                samples: &room.bell,
                 rate: RATE,
-            })?
+            })?,
         };
         self.clips.push(clip);
         self.tell("loaded", n);
@@ -148,12 +145,12 @@ fn walk(
     when: When,
     block: usize,
 ) -> Result<(Vec<f32>, Vec<Event>), Refusal> {
-    let fit = match when {
+    let room_for = match when {
         When::Beforehand => rooms.len(),
         When::BetweenBlocks => 2,
     };
     let mut queue = vec![0; QUEUE * WORDS];
-    let mut pool = vec![0.0; 2 * fit * (SONG + BELL)];
+    let mut pool = vec![0.0; 2 * room_for * (SONG + BELL)];
     let first = Song::new(&rooms[0].song, RATE);
     let session = Session::open_in(mode, RATE, &mut queue, &mut [], &mut pool, first)?;
     let mut walk = Walk {
