@@ -23,17 +23,18 @@ use Rattle.block.specs.Block.{saysBlock, blockAnswered, weighBlock, ranOf, bloc
 use Rattle.clips.specs.declared.LoadAnswered.{LoadAnswered}
 use Rattle.clips.specs.Answer.{saysLoad}
 use Rattle.clips.specs.Load.{weighLoad, handleFor, loadOf}
-use Rattle.clips.specs.Retire.{heldNow, weighRetire, retireOf}
+use Rattle.clips.specs.Retire.{heldNow, retireOf}
 use Rattle.clips.proofs.Held.{live-small, held-has, holder-live}
 use Rattle.clips.proofs.Loaded.{load-sounds, load-live}
-use Rattle.clips.proofs.Retired as clips
+use Rattle.clips.proofs.Retired.{retire-done, accepted}
 use Rattle.promises.specs.Calls.{State, Call, load, retire, block, state, withSession, code, refusal, after, Given}
 use Rattle.promises.specs.Kept.{Good}
 use Rattle.promises.specs.Retire.{Live, Stale}
 use Rattle.promises.specs.Between.{loadSays, retireSays, EitherPlace, LoadBetween, RetireBetween, RetireParts, LoadsPart}
-use Rattle.promises.proofs.Fine.{zero-fine, both}
+use Rattle.promises.proofs.Fine.{zero-fine, both, retire-weighs}
 use Rattle.promises.proofs.Kept.{types, settings-stay, keeps}
 use Rattle.promises.proofs.Banked.{changes, view-stays}
+use Rattle.promises.proofs.Refused.{lent-back}
 use Rattle.promises.proofs.Retire.{loose-says}
 use Rattle.promises.proofs.Stale.{stale-for-good}
 
@@ -141,18 +142,14 @@ load-between samples kind rate out x g =
 -- ---- a retirement
 
 module _ (h : Handle) (x : State) (accepts : refusal (retire h) x ≡ 0) where
-  fine : weighRetire (x .session) (x .queue) (x .capture) h ≡ Weighed.Fine
-  unfolding retireOf
-  fine = zero-fine {A = Answered} _ _ _ (λ a. code (says (a .answer))) (λ k. refl) accepts
-
   done : retireOf (x .session) (x .queue) (x .capture) h ≡ answered Answer.Done (withBank (x .session) (retiredFrom (x .session .bank) h))
-  done = clips.retire-done (x .session) (x .queue) (x .capture) h fine
+  done = retire-done (x .session) (x .queue) (x .capture) h (retire-weighs h x accepts)
 
   was-live : Live h x
-  was-live = clips.accepted (x .session) (x .queue) (x .capture) h fine .alive
+  was-live = accepted (x .session) (x .queue) (x .capture) h (retire-weighs h x accepts) .alive
 
   goes-stale : Stale h (after (retire h) x)
-  goes-stale = clips.retired-stale (x .session) (x .queue) (x .capture) h fine
+  goes-stale = stale-for-good .retired h x accepts .1
 
 module _ (h : Handle) (out : List Float) (x : State) (g : Good x) where
   retire-alone : after (retire h) x ≡ moved x (after (retire h) x .session .bank) (after (retire h) x .pool)
@@ -195,8 +192,7 @@ retire-between h out x g accepts =
 -- a refused retirement leaves everything
 refused-stays : (h : Handle) (x : State) → refusal (retire h) x ≢ 0 → after (retire h) x ≡ x
 unfolding retireOf
-refused-stays h x refused =
-    unless-both {A = Answered} _ _ _ (λ a. code (says (a .answer)) ≢ 0 → withSession x (a .session) ≡ x) (λ k r. refl) (λ fine r. absurd (r refl)) refused
+refused-stays h x = lent-back {A = Answered} _ _ _ (λ a. code (says (a .answer))) (λ a. withSession x (a .session)) x refl (λ k. refl)
 
 -- so its clip is live after both, and stale if it is retired after the block
 pub retire-parts : RetireParts

@@ -5,21 +5,25 @@ use mathlib.Core.List.{List}
 use Prim.Native.Nat.{ℕ, _≤_}
 use native.Mathlib.Omega.{arith}
 use lib.Ieee.{Float}
+use Rattle.counts.specs.declared.Handle.{Handle}
 use Rattle.timeline.specs.declared.Submission.{Submission}
 use Rattle.transport.specs.declared.At.{At}
 use Rattle.session.specs.declared.Refusal.{Refusal}
 use Rattle.session.specs.declared.Weighed.{Weighed}
+use Rattle.session.specs.declared.Answered.{Answered}
 use Rattle.session.specs.Refusal.{numberOf, unless}
+use Rattle.session.specs.Answer.{says}
 use Rattle.session.proofs.Refuse.{number-some, refused-or-done}
 use Rattle.block.specs.declared.BlockAnswered.{BlockAnswered}
 use Rattle.block.specs.Block.{saysBlock, blockOf}
 use Rattle.block.proofs.Weigh.{Accepted, accepted, block-done}
+use Rattle.clips.specs.Retire.{weighRetire, retireOf}
 use Rattle.submission.specs.declared.SubmitAnswer.{SubmitAnswer}
 use Rattle.submission.specs.declared.SubmitAnswered.{SubmitAnswered}
 use Rattle.submission.specs.Answer.{saysSubmit}
 use Rattle.submission.specs.Submit.{weighSubmit, taken, submitOf}
 use Rattle.submission.specs.Order as order
-use Rattle.promises.specs.Calls.{State, submit, block, code, refusal}
+use Rattle.promises.specs.Calls.{State, retire, submit, block, code, refusal}
 
 -- a call that says 0 weighs Fine
 pub zero-fine : {A : Type 0} (w : Weighed) (refusal : Refusal → A) (done : A) (told : A → ℕ) → ((k : Refusal) → told (refusal k) ≡ numberOf k)
@@ -29,6 +33,11 @@ zero-fine w refusal done told e =
   where
     none : (n : ℕ) (k : Refusal) → n ≡ numberOf k → n ≡ 0 → ⊥
     none n k e z = let l : 1 ≤ numberOf k = number-some k in omega arith
+
+-- and so does a retirement
+pub retire-weighs : (h : Handle) (x : State) → refusal (retire h) x ≡ 0 → weighRetire (x .session) (x .queue) (x .capture) h ≡ Weighed.Fine
+unfolding retireOf
+retire-weighs h x = zero-fine {A = Answered} _ _ _ (λ a. code (says (a .answer))) (λ k. refl)
 
 -- two calls that weigh the same: both are refused alike, or both do what they do
 pub both : {A B : Type 0} (w : Weighed) (refusal : Refusal → A) (done : A) (refusal' : Refusal → B) (done' : B) (P : A → B → Type 0)

@@ -1,14 +1,12 @@
 -- A refused call leaves session and stores, but for the dropped count at 15. Assumes nothing.
 use mathlib.Core.Path.{_≡_, refl, sym, ap, _∙_}
 use mathlib.Core.Logic.{_≢_}
-use mathlib.Core.Bool.{Bool, true, false, not}
+use mathlib.Core.Bool.{Bool, false, not}
 use mathlib.Core.List.{List}
 use Prim.Native.Nat.{ℕ}
 use lib.Dec.{eqb}
 use lib.Ieee.{Float}
-use Rattle.counts.specs.declared.Handle.{Handle}
 use Rattle.counts.proofs.Truth.{not-false}
-use Rattle.bank.specs.declared.Kind.{Kind}
 use Rattle.session.specs.declared.Session.{Session}
 use Rattle.session.specs.declared.Refusal.{Refusal}
 use Rattle.session.specs.declared.Weighed.{Weighed}
@@ -32,7 +30,6 @@ use Rattle.submission.specs.Submit.{weighSubmit, taken, submitOf}
 use Rattle.submission.specs.Transition.{weighTransition, transitionOf}
 use Rattle.submission.specs.Replay.{replayOf}
 use Rattle.submission.proofs.Left.{turned-away}
-use Rattle.control.specs.declared.PerformanceSnapshot.{PerformanceSnapshot}
 use Rattle.control.specs.declared.StopAnswered.{StopAnswered}
 use Rattle.control.specs.declared.SnapshotAnswered.{SnapshotAnswered}
 use Rattle.control.specs.declared.MetricsAnswered.{MetricsAnswered}
@@ -67,9 +64,9 @@ module _ {A : Type 0} (w : Weighed) (refusal : Refusal → A) (done : A) (told :
       (λ k r n. g k ∙ sym (ap (withSession x) (uncounted (told (refusal k)) (x .session) (ap (λ (m : ℕ). eqb m 15) (says k) ∙ ap full (sym r) ∙ e)))) (λ f n. absurd (n fine))
 
 -- what a refused call gives for what it was lent
-keeps : {A B : Type 0} (w : Weighed) (refusal : Refusal → A) (done : A) (told : A → ℕ) (lent : A → B) (b : B) → told done ≡ 0 → ((k : Refusal) → lent (refusal k) ≡ b)
+pub lent-back : {A B : Type 0} (w : Weighed) (refusal : Refusal → A) (done : A) (told : A → ℕ) (lent : A → B) (b : B) → told done ≡ 0 → ((k : Refusal) → lent (refusal k) ≡ b)
     → told (unless w refusal done) ≢ 0 → lent (unless w refusal done) ≡ b
-keeps w refusal done told lent b fine g = unless-both w refusal done (λ a. told a ≢ 0 → lent a ≡ b) (λ k n. g k) (λ f n. absurd (n fine))
+lent-back w refusal done told lent b fine g = unless-both w refusal done (λ a. told a ≢ 0 → lent a ≡ b) (λ k n. g k) (λ f n. absurd (n fine))
 
 step-refused : (k : Call) (x : State) → refusal k x ≢ 0 → after k x ≡ withSession x (countedBy (refusal k x) (x .session))
 unfolding loadOf retireOf submitOf taken transitionOf blockOf startCaptureOf stopCaptureOf replayOf snapshotOf applyOf metricsOf
@@ -130,15 +127,15 @@ ill-formed metrics x e = ones {A = MetricsAnswered} _ _ _ _ (λ z. code (saysMet
 
 output-refused : (x : State) (out : List Float) → refusal (block out) x ≢ 0 → outOf x out ≡ out
 unfolding blockOf
-output-refused x out = keeps {A = BlockAnswered × List Float} _ _ _ (λ z. code (saysBlock (z .0 .answer))) (λ z. z .1) out refl (λ k. refl)
+output-refused x out = lent-back {A = BlockAnswered × List Float} _ _ _ (λ z. code (saysBlock (z .0 .answer))) (λ z. z .1) out refl (λ k. refl)
 
 list-refused : (x : State) (list : List ℕ) → refusal (stopCapture list) x ≢ 0 → listOf x list ≡ list
 unfolding stopCaptureOf
-list-refused x list = keeps {A = StopAnswered × List ℕ} _ _ _ (λ z. code (saysStop (z .0 .answer))) (λ z. z .1) list refl (λ k. refl)
+list-refused x list = lent-back {A = StopAnswered × List ℕ} _ _ _ (λ z. code (saysStop (z .0 .answer))) (λ z. z .1) list refl (λ k. refl)
 
 open-left : (o : Opening) → opened o .0 ≢ 0 → _≡_ {A = Session × List Float} (opened o .1 .session, opened o .1 .pool) (noSession, o .pool)
 unfolding openOf
-open-left o = keeps {A = LoadAnswered × List Float} _ _ _ (λ z. code (saysLoad (z .0 .answer))) (λ z. (z .0 .session, z .1)) (noSession, o .pool) refl (λ k. refl)
+open-left o = lent-back {A = LoadAnswered × List Float} _ _ _ (λ z. code (saysLoad (z .0 .answer))) (λ z. (z .0 .session, z .1)) (noSession, o .pool) refl (λ k. refl)
 
 pub refused : Refused
 refused =

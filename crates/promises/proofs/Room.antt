@@ -19,24 +19,21 @@ use Rattle.bank.proofs.Clauses.{live-has, bank-clip}
 use Rattle.bank.proofs.Kept.{retired-slot, room-again}
 use Rattle.stage.specs.declared.Settings.{Settings}
 use Rattle.session.specs.declared.Session.{Session}
-use Rattle.session.specs.declared.Weighed.{Weighed}
 use Rattle.session.specs.declared.Answered.{Answered}
 use Rattle.session.specs.Session.{withBank}
 use Rattle.session.specs.WellFormed.{wellFormed}
-use Rattle.session.specs.Answer.{says}
 use Rattle.session.proofs.Parts.{parts}
 use Rattle.session.proofs.Ranged.{ranged}
 use Rattle.session.proofs.Refuse.{numbered, other, passes, refused-or-done}
 use Rattle.clips.specs.declared.LoadAnswered.{LoadAnswered}
 use Rattle.clips.specs.Answer.{saysLoad}
 use Rattle.clips.specs.Load.{startFor, weighLoad, loadOf}
-use Rattle.clips.specs.Retire.{weighRetire, retireOf}
 use Rattle.clips.proofs.Retired.{retire-done, accepted}
 use Rattle.promises.specs.Calls.{State, withSession, retire, code, refusal, after}
 use Rattle.promises.specs.Kept.{Good}
 use Rattle.promises.specs.Own.{Clipped, loading}
 use Rattle.promises.specs.Room.{RoomAgain}
-use Rattle.promises.proofs.Fine.{zero-fine}
+use Rattle.promises.proofs.Fine.{retire-weighs}
 
 -- 8 or 10
 abbrev crowded : ℕ → Bool
@@ -91,9 +88,8 @@ module _ (x : State) (h : Handle) (c : Clipped) (g : Good x) (alive : live (x .s
       (somewhere (x .session) (x .queue) (x .capture) (g .formed) (startFor (left .session) (c .samples)) (omega (arith, early, k .lies, k .long))))
 
 pub room-is-used-again : RoomAgain
-unfolding retireOf
 room-is-used-again x h c g e some few =
-    let fine : weighRetire (x .session) (x .queue) (x .capture) h ≡ Weighed.Fine = zero-fine {A = Answered} _ _ _ (λ z. code (says (z .answer))) (λ k. refl) e in
+    let fine = retire-weighs h x e in
     let alive : live (x .session .bank) h ≡ true = accepted (x .session) (x .queue) (x .capture) h fine .alive in
     let done : after (retire h) x ≡ left x h c g alive some few = ap (λ (z : Answered). withSession x (z .session)) (retire-done (x .session) (x .queue) (x .capture) h fine) in
     subst (λ (y : State). (refusal (loading c) y ≢ 8) × (refusal (loading c) y ≢ 10) × (startFor (y .session) (c .samples) ≤ clipOf (x .session .bank) h .start)) (sym done) (

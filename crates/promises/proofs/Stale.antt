@@ -32,15 +32,11 @@ use Rattle.stage.specs.declared.Stage.{Stage}
 use Rattle.stage.specs.declared.Tail.{Tail}
 use Rattle.stage.specs.Machine.{machineOf}
 use Rattle.session.specs.declared.Session.{Session}
-use Rattle.session.specs.declared.Answered.{Answered}
 use Rattle.session.specs.declared.Refusal.{Refusal}
-use Rattle.session.specs.declared.Weighed.{Weighed}
-use Rattle.session.specs.Answer.{says}
 use Rattle.session.specs.WellFormed.{weighOnly}
 use Rattle.session.proofs.Refuse.{stop, skip, unless-fine, only-fine}
 use Rattle.block.specs.Block.{ranOf}
 use Rattle.block.proofs.Pools.{SameClaim, SameTail, views-agree-on}
-use Rattle.clips.specs.Retire.{weighRetire, retireOf}
 use Rattle.clips.proofs.Held.{tailClaim, all-held}
 use Rattle.clips.proofs.Retired.{retired-spent}
 use Rattle.submission.specs.declared.ReplayAnswered.{ReplayAnswered}
@@ -48,13 +44,13 @@ use Rattle.submission.specs.Weigh.{weighCommand}
 use Rattle.submission.specs.Submit.{weighSubmit}
 use Rattle.submission.specs.Order.{waiting}
 use Rattle.submission.specs.Replay.{Replaying, weighReplayed, replayed, replayOf}
-use Rattle.promises.specs.Calls.{State, Call, retire, submit, replay, state, code, refusal, after, afterAll}
+use Rattle.promises.specs.Calls.{State, Call, retire, submit, replay, state, refusal, after, afterAll}
 use Rattle.promises.specs.Kept.{Good}
 use Rattle.promises.specs.Retire.{Live, Stale}
 use Rattle.promises.specs.Stale.{AllGiven, WasGiven, skipped, StaleForGood}
 use Rattle.promises.proofs.Skips.{Otherwise, by, otherwise-after, row-skipped}
 use Rattle.promises.proofs.Leaves.{replayed-leaves}
-use Rattle.promises.proofs.Fine.{zero-fine, weighedNumber, submit-says}
+use Rattle.promises.proofs.Fine.{retire-weighs, weighedNumber, submit-says}
 use Rattle.promises.proofs.Banked.{spent-stays, kept-by-all}
 use Rattle.promises.proofs.Retire.{stale-says}
 
@@ -64,10 +60,7 @@ as-spent : (h : Handle) (x : State) → spent (x .session .bank) h ≡ true → 
 as-spent h x e = let b : Bank = x .session .bank in ((spent-first b h e, spent-given b h e), spent-stale b h e)
 
 retired : (h : Handle) (x : State) → refusal (retire h) x ≡ 0 → WasGiven h (after (retire h) x) × Stale h (after (retire h) x)
-unfolding retireOf
-retired h x e =
-    let fine : weighRetire (x .session) (x .queue) (x .capture) h ≡ Weighed.Fine = zero-fine {A = Answered} _ _ _ (λ z. code (says (z .answer))) (λ k. refl) e in
-    as-spent h (after (retire h) x) (retired-spent (x .session) (x .queue) (x .capture) h fine)
+retired h x e = as-spent h (after (retire h) x) (retired-spent (x .session) (x .queue) (x .capture) h (retire-weighs h x e))
 
 stays : (h : Handle) (x : State) (ks : List Call) → Good x → AllGiven ks → WasGiven h x → Stale h x → WasGiven h (afterAll ks x) × Stale h (afterAll ks x)
 stays h x ks g a w e =
