@@ -67,7 +67,7 @@ impl Load {
     }
 }
 
-/// Any handle: of a used slot, or one that is stale there.
+/// A handle of any slot up to the last that is used, live or stale.
 pub fn any_handle(ours: &Ours, dice: &mut Dice) -> Handle {
     let slots = 32 - ours.session.used.leading_zeros();
     let slot = dice.below(u64::from(slots)) as u32;

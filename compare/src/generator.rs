@@ -259,8 +259,8 @@ impl Player {
         self.reached.see_undo(&met);
     }
 
-    /// The laws of any load and any retirement beside a block hold where the session stands as tono, and where it does in
-    /// house mode.
+    /// The laws of any load and of the retirement of any handle hold beside a block that was made as tono, and beside the
+    /// one in house mode.
     fn check_between(&mut self, begun: Session, answer: &Answer) {
         let ours = &self.both.ours;
         let load = Load::any(&mut self.beside);

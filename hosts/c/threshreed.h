@@ -570,8 +570,8 @@ static inline uint32_t tr_load(Threshreed *t, const float *samples, size_t sampl
  * written if it is loaded, as is every result below if the call is not refused.
  *
  * Rooms may stream in while the score plays, in both modes: before a block and after it a load gives the same, its
- * answer and its handle, what the block answers, the samples, the session and the pool. Two loads do not: the first
- * takes the lower slot, whichever it is. */
+ * answer and its handle, what the block answers, the samples, the session and the pool. The order of two loads does
+ * count: the first takes the lower slot, whichever it is. */
 static inline uint32_t tr_load_song(Threshreed *t, const float *samples, size_t samples_len, uint32_t rate,
                                     uint64_t length, ThreshreedHandle *handle)
 {

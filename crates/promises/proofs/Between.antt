@@ -16,7 +16,7 @@ use Rattle.session.specs.declared.Weighed.{Weighed}
 use Rattle.session.specs.declared.Answer.{Answer}
 use Rattle.session.specs.declared.Answered.{Answered}
 use Rattle.session.specs.Session.{withBank}
-use Rattle.session.specs.Answer.{Says, says, answered}
+use Rattle.session.specs.Answer.{says, answered}
 use Rattle.session.proofs.Refuse.{unless-both}
 use Rattle.block.specs.declared.BlockAnswered.{BlockAnswered}
 use Rattle.block.specs.Block.{saysBlock, blockAnswered, weighBlock, ranOf, blockOf}
@@ -27,10 +27,10 @@ use Rattle.clips.specs.Retire.{heldNow, retireOf}
 use Rattle.clips.proofs.Held.{live-small, held-has, holder-live}
 use Rattle.clips.proofs.Loaded.{load-sounds, load-live}
 use Rattle.clips.proofs.Retired.{retire-done, accepted}
-use Rattle.promises.specs.Calls.{State, Call, load, retire, block, state, withSession, code, refusal, after, Given}
+use Rattle.promises.specs.Calls.{State, Call, load, retire, block, state, withSession, code, refusal, after, outOf, Given}
 use Rattle.promises.specs.Kept.{Good}
 use Rattle.promises.specs.Retire.{Live, Stale}
-use Rattle.promises.specs.Between.{loadSays, retireSays, EitherPlace, LoadBetween, RetireBetween, RetireParts, LoadsPart}
+use Rattle.promises.specs.Between.{blockSays, LoadBetween, RetireBetween, RetireParts, LoadsPart}
 use Rattle.promises.proofs.Fine.{zero-fine, both, retire-weighs}
 use Rattle.promises.proofs.Kept.{types, settings-stay, keeps}
 use Rattle.promises.proofs.Banked.{changes, view-stays}
@@ -64,82 +64,83 @@ module _ (x : State) (b : Bank) (pool out : List Float) (g : Good x) (h : Good (
 
 -- ---- a call that changes bank and pool alone, and a block after it
 
-module _ (out : List Float) (x : State) (g : Good x) where
-  abbrev made : State → BlockAnswered × List Float
-  made y = blockOf (y .session) (y .queue) (y .capture) (y .pool) out
+-- what a block gives
+abbrev made : List Float → State → BlockAnswered × List Float
+made out x = blockOf (x .session) (x .queue) (x .capture) (x .pool) out
 
-  -- the state after the block
-  abbrev come : State
-  come = after (block out) x
+-- it leaves the bank
+bank-left : (out : List Float) (x : State) → after (block out) x .session .bank ≡ x .session .bank
+unfolding blockOf
+bank-left out x = unless-both {A = BlockAnswered × List Float} _ _ _ (λ o. o .0 .session .bank ≡ x .session .bank) (λ k. refl) (λ fine. refl)
 
-  -- it leaves the bank
-  bank-left : come .session .bank ≡ x .session .bank
-  unfolding blockOf
-  bank-left = unless-both {A = BlockAnswered × List Float} _ _ _ (λ o. o .0 .session .bank ≡ x .session .bank) (λ k. refl) (λ fine. refl)
+module _ (out : List Float) (x : State) (g : Good x) (k : Call) (given : Given k) (alone : after k x ≡ moved x (after k x .session .bank) (after k x .pool)) where
+  -- the block gives what it gives without the call, over the bank that the call left,
+  made-after : made out (after k x) ≡ over (after k x .session .bank) (made out x)
+  made-after =
+      ap (made out) alone
+      ∙ block-over x (after k x .session .bank) (after k x .pool) out g (subst Good alone (keeps k x given g)) (λ h l. sym (view-stays x (after k x) (g .pooled) h l (changes k x g)))
 
-  module _ (k : Call) (given : Given k) (alone : after k x ≡ moved x (after k x .session .bank) (after k x .pool)) where
-    abbrev bank : Bank
-    bank = after k x .session .bank
+  -- so it says the same,
+  played-after : blockSays out (after k x) ≡ blockSays out x
+  played-after = ap (λ (o : BlockAnswered × List Float). saysBlock (o .0 .answer)) made-after
 
-    abbrev pool : List Float
-    pool = after k x .pool
+  -- its samples are the same,
+  samples-after : outOf (after k x) out ≡ outOf x out
+  samples-after = ap (λ (o : BlockAnswered × List Float). o .1) made-after
 
-    made-after : made (after k x) ≡ over bank (made x)
-    made-after =
-        ap made alone
-        ∙ block-over x bank pool out g (subst Good alone (keeps k x given g)) (λ h l. sym (view-stays x (after k x) (g .pooled) h l (changes k x g)))
-
-    -- the block leaves what it leaves without the call, over the bank and the pool that the call left
-    left-after : after (block out) (after k x) ≡ moved come bank pool
-    left-after =
-        ap (λ (o : BlockAnswered × List Float). withSession (after k x) (o .0 .session)) made-after
-        ∙ ap (λ (y : State). withSession y (withBank (come .session) bank)) alone
-
-    -- so the call is the same in either place if, after the block, it says what it says before it, and leaves that bank and that pool
-    either-place : {A : Type 0} (callSays : State → Says A) → callSays come ≡ callSays x → after k come ≡ moved come bank pool → EitherPlace k callSays out x
-    either-place callSays said leaves =
-        record {
-          called = said;
-          played = ap (λ (o : BlockAnswered × List Float). saysBlock (o .0 .answer)) made-after;
-          samples = ap (λ (o : BlockAnswered × List Float). o .1) made-after;
-          left = left-after ∙ sym leaves;
-        }
+  -- and it leaves the same, over the bank and the pool that the call left
+  left-after : after (block out) (after k x) ≡ moved (after (block out) x) (after k x .session .bank) (after k x .pool)
+  left-after =
+      ap (λ (o : BlockAnswered × List Float). withSession (after k x) (o .0 .session)) made-after
+      ∙ ap (λ (y : State). withSession y (withBank (after (block out) x .session) (after k x .session .bank))) alone
 
 -- ---- a load
 
-module _ (samples : List Float) (kind : Kind) (rate : ℕ) (out : List Float) (x : State) (g : Good x) where
-  load-alone : after (load samples kind rate) x ≡ moved x (after (load samples kind rate) x .session .bank) (after (load samples kind rate) x .pool)
-  unfolding loadOf
-  load-alone =
-      unless-both {A = LoadAnswered × List Float} _ _ _
-      (λ o. state (o .0 .session) (x .queue) (x .capture) (o .1) ≡ moved x (o .0 .session .bank) (o .1)) (λ k. refl) (λ fine. refl)
+load-alone : (samples : List Float) (kind : Kind) (rate : ℕ) (x : State)
+    → after (load samples kind rate) x ≡ moved x (after (load samples kind rate) x .session .bank) (after (load samples kind rate) x .pool)
+unfolding loadOf
+load-alone samples kind rate x =
+    unless-both {A = LoadAnswered × List Float} _ _ _
+    (λ o. state (o .0 .session) (x .queue) (x .capture) (o .1) ≡ moved x (o .0 .session .bank) (o .1)) (λ k. refl) (λ fine. refl)
 
-  -- it weighs the bank and the settings, and these a block leaves
-  weighs-alike : weighLoad (come out x g .session) (x .queue) (x .capture) (x .pool) samples kind rate
-      ≡ weighLoad (x .session) (x .queue) (x .capture) (x .pool) samples kind rate
+module _ (samples : List Float) (kind : Kind) (rate : ℕ) (out : List Float) (x : State) (g : Good x) where
+  abbrev come : State
+  come = after (block out) x
+
+  -- beside itself and 1 it weighs the pool's length, the settings and the bank, and these a block leaves
+  weighs-alike : weighLoad (come .session) (x .queue) (x .capture) (x .pool) samples kind rate ≡ weighLoad (x .session) (x .queue) (x .capture) (x .pool) samples kind rate
   unfolding weighLoad
-  weighs-alike = rw (g .formed, keeps (block out) x tt g .formed, settings-stay (block out) x, bank-left out x g)
+  weighs-alike = rw (g .formed, keeps (block out) x tt g .formed, settings-stay (block out) x, bank-left out x)
 
   -- what it gives after the block, and before it
   abbrev Alike : LoadAnswered × List Float → LoadAnswered × List Float → Type 0
   Alike o p =
       (saysLoad (o .0 .answer) ≡ saysLoad (p .0 .answer))
-      × (state (o .0 .session) (x .queue) (x .capture) (o .1) ≡ moved (come out x g) (p .0 .session .bank) (p .1))
+      × (state (o .0 .session) (x .queue) (x .capture) (o .1) ≡ moved come (p .0 .session .bank) (p .1))
 
-  load-alike : Alike (loadOf (come out x g .session) (x .queue) (x .capture) (x .pool) samples kind rate) (loadOf (x .session) (x .queue) (x .capture) (x .pool) samples kind rate)
+  load-alike : Alike (loadOf (come .session) (x .queue) (x .capture) (x .pool) samples kind rate) (loadOf (x .session) (x .queue) (x .capture) (x .pool) samples kind rate)
   unfolding loadOf
   load-alike =
-      let left = bank-left out x g in
       rw weighs-alike
       (both (weighLoad (x .session) (x .queue) (x .capture) (x .pool) samples kind rate) _ _ _ _ Alike
-      (λ k. (refl, ap (λ (b : Bank). moved (come out x g) b (x .pool)) left)) (rw left, rw (left, settings-stay (block out) x)))
+      (λ k. (refl, ap (λ (b : Bank). moved come b (x .pool)) (bank-left out x))) (rw (bank-left out x), rw (bank-left out x, settings-stay (block out) x)))
 
 pub load-between : LoadBetween
 load-between samples kind rate out x g =
+    let alone = load-alone samples kind rate x in
     let alike = load-alike samples kind rate out x g in
-    either-place out x g (load samples kind rate) tt (load-alone samples kind rate out x g) (loadSays samples kind rate) (alike .0) (alike .1)
+    record {
+      called = alike .0;
+      played = played-after out x g (load samples kind rate) tt alone;
+      samples = samples-after out x g (load samples kind rate) tt alone;
+      left = left-after out x g (load samples kind rate) tt alone ∙ sym (alike .1);
+    }
 
 -- ---- a retirement
+
+retire-alone : (h : Handle) (x : State) → after (retire h) x ≡ moved x (after (retire h) x .session .bank) (x .pool)
+unfolding retireOf
+retire-alone h x = unless-both {A = Answered} _ _ _ (λ a. withSession x (a .session) ≡ moved x (a .session .bank) (x .pool)) (λ k. refl) (λ fine. refl)
 
 module _ (h : Handle) (x : State) (accepts : refusal (retire h) x ≡ 0) where
   done : retireOf (x .session) (x .queue) (x .capture) h ≡ answered Answer.Done (withBank (x .session) (retiredFrom (x .session .bank) h))
@@ -151,41 +152,44 @@ module _ (h : Handle) (x : State) (accepts : refusal (retire h) x ≡ 0) where
   goes-stale : Stale h (after (retire h) x)
   goes-stale = stale-for-good .retired h x accepts .1
 
-module _ (h : Handle) (out : List Float) (x : State) (g : Good x) where
-  retire-alone : after (retire h) x ≡ moved x (after (retire h) x .session .bank) (after (retire h) x .pool)
-  unfolding retireOf
-  retire-alone = unless-both {A = Answered} _ _ _ (λ a. withSession x (a .session) ≡ moved x (a .session .bank) (x .pool)) (λ k. refl) (λ fine. refl)
+module _ (h : Handle) (out : List Float) (x : State) (g : Good x) (accepts : refusal (retire h) x ≡ 0) where
+  abbrev came : State
+  came = after (block out) x
 
-  module _ (accepts : refusal (retire h) x ≡ 0) where
-    -- the block without the clip leaves a good state, in which nothing holds a stale handle: so nothing holds this one after the block
-    loose : heldNow (come out x g .session) (x .queue) (x .capture) h ≡ false
-    unfolding heldNow
-    loose = go (two-ways (heldNow (come out x g .session) (x .queue) (x .capture) h))
-      where
-        without : State
-        without = moved (come out x g) (after (retire h) x .session .bank) (x .pool)
+  -- the block without the clip leaves a good state, in which nothing holds a stale handle: so nothing holds this one after the block
+  loose : heldNow (came .session) (x .queue) (x .capture) h ≡ false
+  unfolding heldNow
+  loose = go (two-ways (heldNow (came .session) (x .queue) (x .capture) h))
+    where
+      without : State
+      without = moved came (after (retire h) x .session .bank) (x .pool)
 
-        good : Good without
-        good = subst Good (left-after out x g (retire h) tt retire-alone) (keeps (block out) (after (retire h) x) tt (keeps (retire h) x tt g))
+      good : Good without
+      good = subst Good (left-after out x g (retire h) tt (retire-alone h x)) (keeps (block out) (after (retire h) x) tt (keeps (retire h) x tt g))
 
-        go : (heldNow (come out x g .session) (x .queue) (x .capture) h ≡ true) ⊎ (heldNow (come out x g .session) (x .queue) (x .capture) h ≡ false)
-            → heldNow (come out x g .session) (x .queue) (x .capture) h ≡ false
-        go (inl e) =
-            let small = live-small (x .session) (x .queue) (x .capture) (g .formed) (types x g) h (was-live h x accepts) in
-            let held = held-has h (without .session) (x .queue) (x .capture) small e in
-            absurd (never (sym (holder-live h (without .session) (x .queue) (x .capture) (good .formed) held) ∙ goes-stale h x accepts))
-        go (inr e) = e
+      go : (heldNow (came .session) (x .queue) (x .capture) h ≡ true) ⊎ (heldNow (came .session) (x .queue) (x .capture) h ≡ false)
+          → heldNow (came .session) (x .queue) (x .capture) h ≡ false
+      go (inl e) =
+          let small = live-small (x .session) (x .queue) (x .capture) (g .formed) (types x g) h (was-live h x accepts) in
+          let held = held-has h (without .session) (x .queue) (x .capture) small e in
+          absurd (never (sym (holder-live h (without .session) (x .queue) (x .capture) (good .formed) held) ∙ goes-stale h x accepts))
+      go (inr e) = e
 
-    accepts-after : refusal (retire h) (come out x g) ≡ 0
-    accepts-after = loose-says h (come out x g) (keeps (block out) x tt g) (rw (bank-left out x g) (was-live h x accepts)) loose
+  accepts-after : refusal (retire h) came ≡ 0
+  accepts-after = loose-says h came (keeps (block out) x tt g) (rw (bank-left out x) (was-live h x accepts)) loose
 
-    retire-leaves : after (retire h) (come out x g) ≡ moved (come out x g) (after (retire h) x .session .bank) (x .pool)
-    retire-leaves = rw (done h (come out x g) accepts-after, done h x accepts, bank-left out x g)
+  retire-leaves : after (retire h) came ≡ moved came (after (retire h) x .session .bank) (x .pool)
+  retire-leaves = rw (done h came accepts-after, done h x accepts, bank-left out x)
 
 pub retire-between : RetireBetween
 retire-between h out x g accepts =
-    either-place out x g (retire h) tt (retire-alone h out x g) (retireSays h)
-    (rw (done h (after (block out) x) (accepts-after h out x g accepts), done h x accepts)) (retire-leaves h out x g accepts)
+    let alone = retire-alone h x in
+    record {
+      called = rw (done h (after (block out) x) (accepts-after h out x g accepts), done h x accepts);
+      played = played-after out x g (retire h) tt alone;
+      samples = samples-after out x g (retire h) tt alone;
+      left = left-after out x g (retire h) tt alone ∙ sym (retire-leaves h out x g accepts);
+    }
 
 -- ---- where the places differ
 

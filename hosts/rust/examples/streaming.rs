@@ -19,8 +19,13 @@ const BELL: usize = 12_000;
 /// How long one stays in a room.
 const STAY: usize = 96_000;
 
-/// For each room, what waits if every room is loaded beforehand.
-const QUEUE: usize = 3 * ROOMS;
+/// How loud the score is under the guide's words. In house mode a tail is under it too, and as tono it is not.
+const GAIN: f32 = 0.5;
+/// The rooms that the pool has room for.
+const HELD: usize = 2;
+
+/// What waits if every room is loaded beforehand: the gain, and three commands for each room.
+const QUEUE: usize = 1 + 3 * ROOMS;
 
 // ---- the rooms
 
@@ -114,8 +119,8 @@ impl Walk<'_> {
     /// What is done between two blocks: clips that nothing holds any more go, the oldest first, and at most one comes.
     fn stream(&mut self) -> Result<(), Refusal> {
         while self.retire()? {}
-        let ahead = self.clips.len() - self.gone;
-        match ahead < 4 && self.clips.len() < 2 * self.rooms.len() {
+        let held = self.clips.len() - self.gone;
+        match held < 2 * HELD && self.clips.len() < 2 * self.rooms.len() {
             true => self.load(),
             false => Ok(()),
         }
@@ -147,7 +152,7 @@ fn walk(
 ) -> Result<(Vec<f32>, Vec<Event>), Refusal> {
     let room_for = match when {
         When::Beforehand => rooms.len(),
-        When::BetweenBlocks => 2,
+        When::BetweenBlocks => HELD,
     };
     let mut queue = vec![0; QUEUE * WORDS];
     let mut pool = vec![0.0; 2 * room_for * (SONG + BELL)];
@@ -160,6 +165,7 @@ fn walk(
         gone: 0,
         events: Vec::new(),
     };
+    walk.session.submit(Command::Gain(GAIN), At::Immediate)?;
     walk.load()?;
     if when == When::Beforehand {
         while walk.clips.len() < 2 * rooms.len() {
@@ -222,22 +228,27 @@ mod tests {
         }
     }
 
-    /// Each room is heard to its end.
+    /// Each room is heard to its end, and its tail otherwise in each mode.
     #[test]
     fn every_room_sounds() {
         let rooms = rooms();
-        let (out, _) = walk(Mode::AsTono, &rooms, When::BetweenBlocks, BLOCK).unwrap();
+        let [tono, house] = [Mode::AsTono, Mode::House]
+            .map(|mode| walk(mode, &rooms, When::BetweenBlocks, BLOCK).unwrap().0);
         for (n, room) in rooms.iter().enumerate() {
-            let last = 2 * ((n + 1) * STAY - 1);
-            let frame = (STAY - 1) % SONG;
-            assert!(
-                same(&out[last..][..2], &room.song[2 * frame..][..2]),
-                "room {n}"
-            );
+            let end = 2 * (n + 1) * STAY;
+            let last = 2 * ((STAY - 1) % SONG);
+            let heard = [room.song[last] * GAIN, room.song[last + 1] * GAIN];
+            for out in [&tono, &house] {
+                assert!(same(&out[end - 2..end], &heard), "room {n}");
+            }
+            let tail = end..(end + 2 * TAIL).min(tono.len());
+            let alike = same(&tono[tail.clone()], &house[tail]);
+            assert_eq!(alike, n + 1 == ROOMS, "the tail of room {n}");
         }
     }
 
-    /// One clip comes between two blocks, and each goes at the first block's end at which the tail or the bell is over.
+    /// At most one clip comes between two blocks, and each goes at the first block's end at which its tail or its ringing
+    /// is over.
     #[test]
     fn comes_a_clip_at_a_time_and_goes_when_it_is_free() {
         let rooms = rooms();

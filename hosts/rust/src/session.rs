@@ -175,7 +175,7 @@ impl<'a> Session<'a> {
     ///
     /// Rooms may stream in while the score plays, in both modes: before a block and after it a load gives the same, its
     /// answer and its handle, what the block answers, the samples, the session and the pool (`examples/streaming.rs`).
-    /// Two loads do not: the first takes the lower slot, whichever it is.
+    /// The order of two loads does count: the first takes the lower slot, whichever it is.
     ///
     /// ```
     /// use threshreed::{Handle, Refusal, Song, Stores};

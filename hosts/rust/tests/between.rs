@@ -15,6 +15,12 @@ const POOL: usize = 400;
 const SONG: u32 = 1;
 const STINGER: u32 = 2;
 
+/// Kinds of commands.
+const LOOP: u32 = 6;
+const GAIN: u32 = 8;
+const SWAP: u32 = 9;
+const FIRE: u32 = 10;
+
 /// How long a swap's tail sounds.
 const TAIL: usize = 1_024;
 
@@ -83,13 +89,14 @@ impl Stand {
         made
     }
 
-    fn submit(&mut self, kind: u32, clip: Handle, frame: u64, end: u64, at: u64) {
+    /// Submits a command of a kind for a clock frame. Of the fields the kind takes what it uses.
+    fn submit(&mut self, kind: u32, clip: Handle, at: u64) {
         let command = Command {
             kind,
             gain: 0.5,
             clip,
-            frame,
-            end,
+            frame: 2,
+            end: 9,
         };
         let at = At { kind: 2, frame: at };
         let submitted = raw::submit(
@@ -192,11 +199,11 @@ fn begun(mode: u32) -> (Stand, Clips) {
         gone,
     };
     assert_eq!(stand.call(&Call::Retire(gone)).0, 0);
-    stand.submit(9, clips.hall, 0, 0, 0);
-    stand.submit(6, clips.hall, 2, 9, 0);
-    stand.submit(10, clips.bell, 0, 0, 5);
-    stand.submit(8, clips.bell, 0, 0, 5);
-    stand.submit(9, clips.cellar, 0, 0, 50);
+    stand.submit(SWAP, clips.hall, 0);
+    stand.submit(LOOP, clips.hall, 0);
+    stand.submit(FIRE, clips.bell, 5);
+    stand.submit(GAIN, clips.bell, 5);
+    stand.submit(SWAP, clips.cellar, 50);
     assert_eq!(stand.block(&mut [0.0; 2 * 16]).refusal, 0);
     (stand, clips)
 }
