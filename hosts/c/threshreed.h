@@ -51,6 +51,7 @@ extern "C" {
     X(20, LIST_TOO_SHORT, "list for captured records too short") \
     X(21, UNREADABLE, "replayed record unreadable (seen only as a skip)") \
     X(22, SENSELESS_LOOP, "senseless loop: its start is not below its end") \
+    X(23, BAD_RING, "ring's store not of 3 to 65,536 samples, or its head or tail outside") \
     X(255, NO_SUCH_CASE, "argument names no case")
 
 /* THRESHREED_NOT_WELL_FORMED to THRESHREED_NO_SUCH_CASE. */
@@ -242,6 +243,13 @@ typedef struct {
     uint64_t fired;
 } ThreshreedMetrics;
 
+/* Where a ring stands in its store, a place for each sample: the next that is read, and the next that is written. One
+ * place always stays empty, so that a ring of two equal places holds nothing; {0, 0} is one. */
+typedef struct {
+    size_t head;
+    size_t tail;
+} ThreshreedRing;
+
 /* The answers: 0 or the refusal's number, what the call gives, and the session. */
 typedef struct {
     uint32_t refusal;
@@ -265,6 +273,22 @@ typedef struct {
     uint64_t passes;
     ThreshreedSession session;
 } ThreshreedBlocked;
+
+/* Of a pump: the frames made, their passes, and the ring past them. */
+typedef struct {
+    uint32_t refusal;
+    size_t frames;
+    uint64_t passes;
+    ThreshreedRing ring;
+    ThreshreedSession session;
+} ThreshreedPumped;
+
+/* Of a drain: the frames taken, and the ring past them. */
+typedef struct {
+    uint32_t refusal;
+    size_t frames;
+    ThreshreedRing ring;
+} ThreshreedDrained;
 
 typedef struct {
     uint32_t refusal;
@@ -398,6 +422,10 @@ THRESHREED_OFFSET(Metrics, deepest, 24);
 THRESHREED_OFFSET(Metrics, swaps, 32);
 THRESHREED_OFFSET(Metrics, fired, 40);
 
+THRESHREED_SIZE(Ring, 16);
+THRESHREED_OFFSET(Ring, head, 0);
+THRESHREED_OFFSET(Ring, tail, 8);
+
 THRESHREED_SIZE(Answered, 2048);
 THRESHREED_OFFSET(Answered, refusal, 0);
 THRESHREED_OFFSET(Answered, session, 8);
@@ -416,6 +444,18 @@ THRESHREED_SIZE(Blocked, 2056);
 THRESHREED_OFFSET(Blocked, refusal, 0);
 THRESHREED_OFFSET(Blocked, passes, 8);
 THRESHREED_OFFSET(Blocked, session, 16);
+
+THRESHREED_SIZE(Pumped, 2080);
+THRESHREED_OFFSET(Pumped, refusal, 0);
+THRESHREED_OFFSET(Pumped, frames, 8);
+THRESHREED_OFFSET(Pumped, passes, 16);
+THRESHREED_OFFSET(Pumped, ring, 24);
+THRESHREED_OFFSET(Pumped, session, 40);
+
+THRESHREED_SIZE(Drained, 32);
+THRESHREED_OFFSET(Drained, refusal, 0);
+THRESHREED_OFFSET(Drained, frames, 8);
+THRESHREED_OFFSET(Drained, ring, 16);
 
 THRESHREED_SIZE(Replayed, 2072);
 THRESHREED_OFFSET(Replayed, refusal, 0);
@@ -471,6 +511,15 @@ ThreshreedReplayed threshreed_replay(ThreshreedSession session, uint64_t *queue,
 ThreshreedBlocked threshreed_block(ThreshreedSession session, const uint64_t *queue, size_t queue_len,
                                    const uint64_t *capture, size_t capture_len, const float *pool, size_t pool_len,
                                    float *out, size_t out_len);
+
+/* Makes frames into a ring's store: those asked for, held to half the free samples. */
+ThreshreedPumped threshreed_pump(ThreshreedSession session, const uint64_t *queue, size_t queue_len,
+                                 const uint64_t *capture, size_t capture_len, const float *pool, size_t pool_len,
+                                 ThreshreedRing ring, float *store, size_t store_len, size_t frames);
+
+/* Fills the callback's block from a ring's store: whole frames while there are any, and silence. */
+ThreshreedDrained threshreed_drain(ThreshreedRing ring, const float *store, size_t store_len, float *out,
+                                   size_t out_len);
 
 /* Starts capture, empty. */
 ThreshreedAnswered threshreed_start_capture(ThreshreedSession session, const uint64_t *queue, size_t queue_len,
@@ -639,6 +688,47 @@ static inline uint32_t tr_block(Threshreed *t, float *out, size_t out_len, uint6
     t->session = r.session;
     if (r.refusal == 0 && passes) {
         *passes = r.passes;
+    }
+    return r.refusal;
+}
+
+/* Makes frames as a block does, straight into a ring's store of 3 to 65,536 samples: those asked for, held to half the
+ * free samples, of which one always stays empty. `made` tells how many, 0 if the ring is full; then `frames` may be
+ * asked for again once some are drained. A refused pump leaves ring and store as they were. */
+static inline uint32_t tr_pump(Threshreed *t, ThreshreedRing *ring, float *store, size_t store_len, size_t frames,
+                               size_t *made, uint64_t *passes)
+{
+    ThreshreedPumped r =
+        threshreed_pump(t->session, t->queue, t->queue_len, t->capture, t->capture_len, t->pool, t->pool_len, *ring,
+                        store ? store : t->pool, store ? store_len : 0, frames);
+    t->session = r.session;
+    *ring = r.ring;
+    if (r.refusal == 0 && made) {
+        *made = r.frames;
+    }
+    if (r.refusal == 0 && passes) {
+        *passes = r.passes;
+    }
+    return r.refusal;
+}
+
+/* Fills the audio callback's block from a ring's store; no session is needed. The first `2 * taken` samples are what was
+ * pumped, in order, and the rest is silence: a frame for which two samples are not there, and an odd last sample. A
+ * refused drain, which a ring that is pumped never sees, leaves ring and block as they were.
+ *
+ * Ring and store are for a single caller. A host that pumps on one thread and drains on another puts one lock around
+ * each of both calls, or hands the callback its own thread's turns: the ring is a plain struct, and nothing here orders
+ * what two threads read and write. */
+static inline uint32_t tr_drain(ThreshreedRing *ring, const float *store, size_t store_len, float *out, size_t out_len,
+                                size_t *taken)
+{
+    static const float no_samples;
+    static float no_block;
+    ThreshreedDrained r = threshreed_drain(*ring, store ? store : &no_samples, store ? store_len : 0,
+                                           out ? out : &no_block, out ? out_len : 0);
+    *ring = r.ring;
+    if (r.refusal == 0 && taken) {
+        *taken = r.frames;
     }
     return r.refusal;
 }

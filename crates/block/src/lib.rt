@@ -8,7 +8,7 @@ ghost use lib.ListN.{length};
 ghost use Rattle.bank.specs.Sample.{framesOf};
 ghost use Rattle.session.specs.declared.Desk.{Desk};
 ghost use Rattle.block.specs.declared.BlockAnswered.{BlockAnswered};
-ghost use Rattle.block.specs.Block.{ofParts, blockAnswered, weighBlock, ranOf, blockDone, blockOf};
+ghost use Rattle.block.specs.Block.{ofParts, blockAnswered, weighBlock, ranOf, blockDone, blockOf, reported};
 ghost use Rattle.block.specs.Fill.{firstDue, leadOf, firstDone, Executable, Fillable};
 use bank::Bank;
 use bank::Clip;
@@ -38,6 +38,16 @@ pub struct Made {
     pub answer: BlockAnswer,
     pub stage: Stage,
     pub queued: usize,
+}
+
+/// The passes that an answer reports; a refused block makes none.
+pub fn reported_by(answer: BlockAnswer) -> u64
+    ensures { λ r. ⌜ r ≡ reported answer ⌝ }
+{
+    match answer {
+        BlockAnswer::Done(passes) => passes,
+        BlockAnswer::Refused(_) => 0,
+    }
 }
 
 /// 1, 2, 3, then block 4.
@@ -117,7 +127,7 @@ fn execute_first(
 
 /// While frames remain, the first queued command is executed if it is due, else frames are made up to the next one;
 /// after the last frame one command, if it is due. No frames: nothing. It answers the passes of all frames.
-fn fill(
+pub fn fill(
     settings: Settings,
     bank: Bank,
     stage: Stage,

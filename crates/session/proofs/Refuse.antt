@@ -35,6 +35,7 @@ number-some Refusal.Held = omega arith
 number-some Refusal.ListTooShort = omega arith
 number-some Refusal.Unreadable = omega arith
 number-some Refusal.SenselessLoop = omega arith
+number-some Refusal.BadRing = omega arith
 
 -- a test that holds gives its refusal,
 pub stop : (t : Bool) (k : Refusal) (rest : Weighed) → t ≡ true → Weighed.Refused k ≡ first t k rest

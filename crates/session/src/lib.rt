@@ -141,7 +141,7 @@ impl Session {
     }
 }
 
-/// Why a call is refused, in the order of the numbers 1 to 22.
+/// Why a call is refused, in the order of the numbers 1 to 23.
 pub enum Refusal {
     NotWellFormed,
     PoolLength,
@@ -165,6 +165,7 @@ pub enum Refusal {
     ListTooShort,
     Unreadable,
     SenselessLoop,
+    BadRing,
 }
 
 impl Refusal {
@@ -195,6 +196,7 @@ impl Refusal {
             Refusal::ListTooShort => 20,
             Refusal::Unreadable => 21,
             Refusal::SenselessLoop => 22,
+            Refusal::BadRing => 23,
         }
     }
 }

@@ -1,0 +1,2 @@
+pub mod Pump
+pub mod Into

@@ -1,0 +1,5 @@
+pub mod Places
+pub mod Pushed
+pub mod Poured
+pub mod Taking
+pub mod Numbers
