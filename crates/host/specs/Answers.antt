@@ -14,6 +14,11 @@ use Rattle.session.specs.Answer as rules
 use Rattle.session.specs.WellFormed.{wellFormed}
 use Rattle.block.specs.declared.BlockAnswer.{BlockAnswer}
 use Rattle.block.specs.declared.BlockAnswered.{BlockAnswered}
+use Rattle.ring.specs.declared.SampleRing.{SampleRing}
+use Rattle.ring.specs.declared.DrainAnswer.{DrainAnswer}
+use Rattle.ring.specs.declared.Drained.{Drained}
+use Rattle.pump.specs.declared.PumpAnswer.{PumpAnswer}
+use Rattle.pump.specs.declared.Pumped.{Pumped}
 use Rattle.clips.specs.declared.LoadAnswer.{LoadAnswer}
 use Rattle.clips.specs.declared.LoadAnswered.{LoadAnswered}
 use Rattle.submission.specs.declared.Report.{Report}
@@ -35,6 +40,8 @@ use Rattle.host.specs.declared.HostAnswered.{HostAnswered}
 use Rattle.host.specs.declared.HostLoaded.{HostLoaded}
 use Rattle.host.specs.declared.HostSubmitted.{HostSubmitted}
 use Rattle.host.specs.declared.HostBlocked.{HostBlocked}
+use Rattle.host.specs.declared.HostPumped.{HostPumped}
+use Rattle.host.specs.declared.HostDrained.{HostDrained}
 use Rattle.host.specs.declared.HostReplayed.{HostReplayed}
 use Rattle.host.specs.declared.HostStopped.{HostStopped}
 use Rattle.host.specs.declared.HostSnapped.{HostSnapped}
@@ -149,6 +156,33 @@ blockedWith h (BlockAnswer.Refused k) t = blockRefused h (numberOf k)
 
 abbrev pub blockedBy : HostSession → BlockAnswered → HostBlocked
 blockedBy h r = blockedWith h (r .answer) (hostOf (r .session))
+
+-- ---- the frames made with their passes: pump
+
+abbrev pub pumped : ℕ → ℕ → ℕ → SampleRing → HostSession → HostPumped
+pumped n x p r h = record { refusal = n; frames = x; passes = p; ring = r; session = h }
+
+abbrev pub pumpRefused : HostSession → SampleRing → ℕ → HostPumped
+pumpRefused h r n = pumped n 0 0 r (turned n h)
+
+abbrev pub pumpedWith : HostSession → PumpAnswer → SampleRing → HostSession → HostPumped
+pumpedWith h (PumpAnswer.Pumped x p) r t = pumped 0 x p r t
+pumpedWith h (PumpAnswer.Refused k) r t = pumpRefused h r (numberOf k)
+
+abbrev pub pumpedBy : HostSession → Pumped → HostPumped
+pumpedBy h x = pumpedWith h (x .answer) (x .ring) (hostOf (x .session))
+
+-- ---- the frames taken: drain, which is lent no session
+
+abbrev pub drained : ℕ → ℕ → SampleRing → HostDrained
+drained n x r = record { refusal = n; frames = x; ring = r }
+
+abbrev pub drainedWith : DrainAnswer → SampleRing → HostDrained
+drainedWith (DrainAnswer.Drained x) r = drained 0 x r
+drainedWith (DrainAnswer.Refused k) r = drained (numberOf k) 0 r
+
+abbrev pub drainedBy : Drained → HostDrained
+drainedBy x = drainedWith (x .answer) (x .ring)
 
 -- ---- a report: replay
 

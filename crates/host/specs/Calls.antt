@@ -17,6 +17,11 @@ use Rattle.submission.specs.Transition.{transitionOf}
 use Rattle.submission.specs.Replay.{replayOf}
 use Rattle.block.specs.declared.BlockAnswered.{BlockAnswered}
 use Rattle.block.specs.Block.{blockOf}
+use Rattle.ring.specs.declared.SampleRing.{SampleRing}
+use Rattle.ring.specs.declared.Drained.{Drained}
+use Rattle.ring.specs.Drain.{drainOf}
+use Rattle.pump.specs.declared.Pumped.{Pumped}
+use Rattle.pump.specs.Pump.{pumpOf}
 use Rattle.control.specs.declared.StopAnswered.{StopAnswered}
 use Rattle.control.specs.Capture.{startCaptureOf, stopCaptureOf}
 use Rattle.control.specs.Snapshot as control
@@ -29,13 +34,15 @@ use Rattle.host.specs.declared.HostAnswered.{HostAnswered}
 use Rattle.host.specs.declared.HostLoaded.{HostLoaded}
 use Rattle.host.specs.declared.HostSubmitted.{HostSubmitted}
 use Rattle.host.specs.declared.HostBlocked.{HostBlocked}
+use Rattle.host.specs.declared.HostPumped.{HostPumped}
+use Rattle.host.specs.declared.HostDrained.{HostDrained}
 use Rattle.host.specs.declared.HostReplayed.{HostReplayed}
 use Rattle.host.specs.declared.HostStopped.{HostStopped}
 use Rattle.host.specs.declared.HostSnapped.{HostSnapped}
 use Rattle.host.specs.declared.HostMetrics.{HostMetrics}
 use Rattle.host.specs.Kept.{isKind, kindOf, sessionOf}
 use Rattle.host.specs.Arguments.{isSubmission, submissionOf, isAt, atOf, isSnapshot, snapshotOf}
-use Rattle.host.specs.Answers.{weighHost, unless, refused, answeredBy, loadRefused, loadedBy, openedBy, submitRefused, submittedBy, blockRefused, blockedBy, replayRefused, replayedBy, stopRefused, stoppedBy, snapshotRefused, snappedBy, metricsRefused, meteredBy}
+use Rattle.host.specs.Answers.{weighHost, unless, refused, answeredBy, loadRefused, loadedBy, openedBy, submitRefused, submittedBy, blockRefused, blockedBy, pumpRefused, pumpedBy, drainedBy, replayRefused, replayedBy, stopRefused, stoppedBy, snapshotRefused, snappedBy, metricsRefused, meteredBy}
 
 -- answer and session; pool
 unfoldable pub openHost : Settings → List ℕ → List ℕ → List Float → List Float → ℕ → SongFrame → HostLoaded × List Float
@@ -75,6 +82,18 @@ unfoldable pub blockHost : HostSession → List ℕ → List ℕ → List Float 
 blockHost h q c pool out =
     let z : BlockAnswered × List Float = blockOf (sessionOf h) q c pool out in
     unless (weighHost h q c true) (λ n. (blockRefused h n, out)) (blockedBy h (z .0), z .1)
+
+-- answer, session and ring; store
+unfoldable pub pumpHost : HostSession → List ℕ → List ℕ → List Float → SampleRing → List Float → ℕ → HostPumped × List Float
+pumpHost h q c pool r store frames =
+    let z : Pumped × List Float = pumpOf (sessionOf h) q c pool r store frames in
+    unless (weighHost h q c true) (λ n. (pumpRefused h r n, store)) (pumpedBy h (z .0), z .1)
+
+-- answer and ring; block
+unfoldable pub drainHost : SampleRing → List Float → List Float → HostDrained × List Float
+drainHost r store out =
+    let z : Drained × List Float = drainOf r store out in
+    (drainedBy (z .0), z .1)
 
 unfoldable pub startCaptureHost : HostSession → List ℕ → List ℕ → HostAnswered
 startCaptureHost h q c = unless (weighHost h q c true) (refused h) (answeredBy h (startCaptureOf (sessionOf h) q c))

@@ -7,8 +7,8 @@ ghost use lib.Ieee.{Float};
 ghost use Rattle.bank.specs.declared.Clip.{Clip};
 ghost use Rattle.host.specs.Kept.{isKind, kindOf, kindNumber, clipOf, clipNumbers, isState, stateOf, stateNumber, isFlag, flagOf, flagNumber, loopOf, loopNumbers, tailOf, tailNumbers, slotNamed, kindsOk, isSession, stageOf, sessionOf, hostOf};
 ghost use Rattle.host.specs.Arguments.{isSubmission, submissionOf, isAt, atOf, isSnapshot, snapshotOf, snapshotNumbers};
-ghost use Rattle.host.specs.Answers.{turned, weighHost, refused, answeredBy, loadRefused, loadedBy, openedBy, submitRefused, submittedBy, blockRefused, replayRefused, replayedBy, stopRefused, stoppedBy, noSnapshot, snapshotRefused, snappedBy, noMetrics, metricsRefused, meteredBy};
-ghost use Rattle.host.specs.Calls.{openHost, loadHost, retireHost, submitHost, transitionHost, replayHost, blockHost, startCaptureHost, stopCaptureHost, snapshotHost, applyHost, metricsHost};
+ghost use Rattle.host.specs.Answers.{turned, weighHost, refused, answeredBy, loadRefused, loadedBy, openedBy, submitRefused, submittedBy, blockRefused, pumpRefused, pumpedBy, drainedBy, replayRefused, replayedBy, stopRefused, stoppedBy, noSnapshot, snapshotRefused, snappedBy, noMetrics, metricsRefused, meteredBy};
+ghost use Rattle.host.specs.Calls.{openHost, loadHost, retireHost, submitHost, transitionHost, replayHost, blockHost, pumpHost, drainHost, startCaptureHost, stopCaptureHost, snapshotHost, applyHost, metricsHost};
 use bank::Bank;
 use bank::Clip;
 use bank::Kind;
@@ -27,7 +27,12 @@ use counts::ClockFrame;
 use counts::Handle;
 use counts::SongFrame;
 use oneshot::Voices;
+use pump::PumpAnswer;
+use pump::Pumped;
 use ramp::Ramp;
+use ring::DrainAnswer;
+use ring::Drained;
+use ring::SampleRing;
 use session::Answer;
 use session::Answered;
 use session::Desk;
@@ -164,6 +169,23 @@ pub struct HostBlocked {
     pub refusal: u32,
     pub passes: u64,
     pub session: HostSession,
+}
+
+#[repr(C)]
+pub struct HostPumped {
+    pub refusal: u32,
+    pub frames: usize,
+    pub passes: u64,
+    pub ring: SampleRing,
+    pub session: HostSession,
+}
+
+/// A drain is lent no session.
+#[repr(C)]
+pub struct HostDrained {
+    pub refusal: u32,
+    pub frames: usize,
+    pub ring: SampleRing,
 }
 
 #[repr(C)]
@@ -760,6 +782,55 @@ fn block_refused(number: u32, h: HostSession) -> HostBlocked
     }
 }
 
+fn pump_refused(number: u32, h: HostSession, r: SampleRing) -> HostPumped
+    ensures { λ x. ⌜ x ≡ pumpRefused h r number ⌝ }
+{
+    HostPumped {
+        refusal: number,
+        frames: 0,
+        passes: 0,
+        ring: r,
+        session: turned(number, h),
+    }
+}
+
+fn pumped(h: HostSession, x: Pumped) -> HostPumped
+    ensures { λ y. ⌜ y ≡ pumpedBy h x ⌝ }
+{
+    let answer = x.answer;
+    let r = x.ring;
+    let s = x.session;
+    match answer {
+        PumpAnswer::Pumped(frames, passes) => HostPumped {
+            refusal: 0,
+            frames,
+            passes,
+            ring: r,
+            session: host_of(s),
+        },
+        PumpAnswer::Refused(k) => pump_refused(k.number(), h, r),
+    }
+}
+
+fn drained(x: Drained) -> HostDrained
+    ensures { λ y. ⌜ y ≡ drainedBy x ⌝ }
+{
+    let answer = x.answer;
+    let r = x.ring;
+    match answer {
+        DrainAnswer::Drained(frames) => HostDrained {
+            refusal: 0,
+            frames,
+            ring: r,
+        },
+        DrainAnswer::Refused(k) => HostDrained {
+            refusal: k.number(),
+            frames: 0,
+            ring: r,
+        },
+    }
+}
+
 fn replay_refused(number: u32, h: HostSession) -> HostReplayed
     ensures { λ r. ⌜ r ≡ replayRefused h number ⌝ }
 {
@@ -1083,6 +1154,37 @@ pub extern "C" fn threshreed_block(
         },
         BlockAnswer::Refused(k) => block_refused(k.number(), h),
     }
+}
+
+/// Makes frames into a ring's store: those asked for, held to half the free samples.
+#[no_mangle]
+pub extern "C" fn threshreed_pump(
+    h: HostSession,
+    queue: &[u64],
+    capture: &[u64],
+    pool: &[f32],
+    r: SampleRing,
+    store: &mut [f32],
+    frames: usize,
+) -> HostPumped
+    ensures { λ x. ⌜ _≡_ {A = HostPumped × List Float} (x, now (store .exit)) (pumpHost h (now (queue .entry)) (now (capture .entry)) (now (pool .entry)) r (now (store .entry)) frames) ⌝ }
+{
+    let first = weigh(h, queue, capture, true);
+    if first != 0 {
+        return pump_refused(first, h, r);
+    }
+    let s = session_of(h);
+    let x = pump::pump(s, queue, capture, pool, r, store, frames);
+    pumped(h, x)
+}
+
+/// Fills the callback's block from a ring's store: whole frames while there are any, and silence.
+#[no_mangle]
+pub extern "C" fn threshreed_drain(r: SampleRing, store: &[f32], out: &mut [f32]) -> HostDrained
+    ensures { λ x. ⌜ _≡_ {A = HostDrained × List Float} (x, now (out .exit)) (drainHost r (now (store .entry)) (now (out .entry))) ⌝ }
+{
+    let x = ring::drain(r, store, out);
+    drained(x)
 }
 
 /// Starts capture, empty.
