@@ -21,6 +21,8 @@ use Rattle.submission.specs.Submit.{taken, submitOf}
 use Rattle.submission.specs.Transition.{transitionOf}
 use Rattle.submission.specs.Replay.{replayOf}
 use Rattle.block.specs.Block.{blockOf}
+use Rattle.ring.specs.declared.SampleRing.{SampleRing}
+use Rattle.pump.specs.Pump.{pumpOf}
 use Rattle.control.specs.Capture.{startCaptureOf, stopCaptureOf}
 use Rattle.control.specs.Snapshot as control
 use Rattle.control.specs.Metrics.{metricsOf}
@@ -32,13 +34,14 @@ use Rattle.host.specs.declared.HostAnswered.{HostAnswered}
 use Rattle.host.specs.declared.HostLoaded.{HostLoaded}
 use Rattle.host.specs.declared.HostSubmitted.{HostSubmitted}
 use Rattle.host.specs.declared.HostBlocked.{HostBlocked}
+use Rattle.host.specs.declared.HostPumped.{HostPumped}
 use Rattle.host.specs.declared.HostReplayed.{HostReplayed}
 use Rattle.host.specs.declared.HostStopped.{HostStopped}
 use Rattle.host.specs.declared.HostSnapped.{HostSnapped}
 use Rattle.host.specs.declared.HostMetrics.{HostMetrics}
 use Rattle.host.specs.Kept.{isSession, sessionOf}
-use Rattle.host.specs.Answers.{withDropped, turned, weighHost, unless as unlessHost, refused, answeredBy, loadRefused, loadedBy, submitRefused, submittedBy, blockRefused, blockedBy, replayRefused, replayedBy, stopRefused, stoppedBy, snapshotRefused, snappedBy, metricsRefused, meteredBy}
-use Rattle.host.specs.Calls.{loadHost, retireHost, submitHost, transitionHost, replayHost, blockHost, startCaptureHost, stopCaptureHost, snapshotHost, applyHost, metricsHost}
+use Rattle.host.specs.Answers.{withDropped, turned, weighHost, unless as unlessHost, refused, answeredBy, loadRefused, loadedBy, submitRefused, submittedBy, blockRefused, blockedBy, pumpRefused, pumpedBy, replayRefused, replayedBy, stopRefused, stoppedBy, snapshotRefused, snappedBy, metricsRefused, meteredBy}
+use Rattle.host.specs.Calls.{loadHost, retireHost, submitHost, transitionHost, replayHost, blockHost, pumpHost, startCaptureHost, stopCaptureHost, snapshotHost, applyHost, metricsHost}
 
 -- beside a lent store,
 abbrev pub withStore : {A B S : Type 0} → (A → B) → A × S → B × S
@@ -145,6 +148,12 @@ module _ (h : HostSession) (q c : List ℕ) where
   pub block-stays : (pool out : List Float) → let z : HostBlocked × List Float = blockHost h q c pool out in (z .0 .refusal ≡ 0 → ⊥) → z ≡ (blockRefused h (z .0 .refusal), out)
   unfolding blockHost blockOf
   block-stays pool out = stays (λ z. z .0 .refusal) (λ n. (blockRefused h n, out)) (withStore (blockedBy h)) _ _ _ _ (λ m. refl) (λ k. refl) refl
+
+  -- a pump,
+  pub pump-stays : (pool : List Float) (r : SampleRing) (store : List Float) (frames : ℕ)
+      → let z : HostPumped × List Float = pumpHost h q c pool r store frames in (z .0 .refusal ≡ 0 → ⊥) → z ≡ (pumpRefused h r (z .0 .refusal), store)
+  unfolding pumpHost pumpOf
+  pump-stays pool r store frames = stays (λ z. z .0 .refusal) (λ n. (pumpRefused h r n, store)) (withStore (pumpedBy h)) _ _ _ _ (λ m. refl) (λ k. refl) refl
 
   -- starting capture,
   pub start-stays : let z : HostAnswered = startCaptureHost h q c in (z .refusal ≡ 0 → ⊥) → z ≡ refused h (z .refusal)

@@ -5,6 +5,7 @@ use mathlib.Core.List.{List}
 use Prim.Native.Nat.{ℕ, _≤_}
 use native.Mathlib.Omega.{arith}
 use lib.Dec.{eqb}
+use lib.ListN.{length}
 use borrow.Author.Tests.{eqb-false, ne-eqb}
 use lib.Ieee.{Float}
 use Rattle.counts.specs.declared.SongFrame.{SongFrame}
@@ -21,6 +22,9 @@ use Rattle.session.specs.Answer.{Says, refused, gives, says}
 use Rattle.session.proofs.Refuse.{number-some, numbered, other, refused-or-done}
 use Rattle.block.specs.declared.BlockAnswered.{BlockAnswered}
 use Rattle.block.specs.Block.{saysBlock, weighBlock, blockOf}
+use Rattle.ring.specs.declared.SampleRing.{SampleRing}
+use Rattle.pump.specs.declared.Pumped.{Pumped}
+use Rattle.pump.specs.Pump.{saysPump, weighPump, pumpOf}
 use Rattle.clips.specs.declared.LoadAnswer.{LoadAnswer}
 use Rattle.clips.specs.declared.LoadAnswered.{LoadAnswered}
 use Rattle.clips.specs.Answer.{saysLoad, loadAnswered}
@@ -51,14 +55,15 @@ use Rattle.host.specs.declared.HostAnswered.{HostAnswered}
 use Rattle.host.specs.declared.HostLoaded.{HostLoaded}
 use Rattle.host.specs.declared.HostSubmitted.{HostSubmitted}
 use Rattle.host.specs.declared.HostBlocked.{HostBlocked}
+use Rattle.host.specs.declared.HostPumped.{HostPumped}
 use Rattle.host.specs.declared.HostReplayed.{HostReplayed}
 use Rattle.host.specs.declared.HostStopped.{HostStopped}
 use Rattle.host.specs.declared.HostSnapped.{HostSnapped}
 use Rattle.host.specs.declared.HostMetrics.{HostMetrics}
 use Rattle.host.specs.Kept.{isKind, kindOf, sessionOf, hostOf}
 use Rattle.host.specs.Arguments.{isSubmission, submissionOf, isAt, atOf, isSnapshot, snapshotOf}
-use Rattle.host.specs.Answers.{saysBy, turned, weighHost, unless as unlessHost, answeredBy, loadedBy, openedBy, submittedBy, blockedBy, replayedBy, stoppedBy, snappedBy, meteredBy}
-use Rattle.host.specs.Calls.{openHost, loadHost, retireHost, submitHost, transitionHost, replayHost, blockHost, startCaptureHost, stopCaptureHost, snapshotHost, applyHost, metricsHost}
+use Rattle.host.specs.Answers.{saysBy, turned, weighHost, unless as unlessHost, answeredBy, loadedBy, openedBy, submittedBy, blockedBy, pumpedBy, replayedBy, stoppedBy, snappedBy, meteredBy}
+use Rattle.host.specs.Calls.{openHost, loadHost, retireHost, submitHost, transitionHost, replayHost, blockHost, pumpHost, startCaptureHost, stopCaptureHost, snapshotHost, applyHost, metricsHost}
 use Rattle.host.proofs.Round.{there-and-back, snapshot-back}
 use Rattle.host.proofs.Refusals.{withStore, withStores, turned-matches, turned-same}
 
@@ -91,6 +96,13 @@ readBlocked r = (saysBy (r .refusal) (r .passes), sessionOf (r .session))
 
 abbrev pub toldBlocked : BlockAnswered → Says ℕ × Session
 toldBlocked r = (saysBlock (r .answer), r .session)
+
+-- the frames made with their passes, and the ring: pump,
+abbrev pub readPumped : HostPumped → Says (ℕ × ℕ) × Session × SampleRing
+readPumped x = (saysBy (x .refusal) (x .frames, x .passes), sessionOf (x .session), x .ring)
+
+abbrev pub toldPumped : Pumped → Says (ℕ × ℕ) × Session × SampleRing
+toldPumped x = (saysPump (x .answer), x .session, x .ring)
 
 -- a report: replay,
 abbrev pub readReplayed : HostReplayed → Says Report × Session
@@ -160,6 +172,10 @@ module _ (s : Session) (q c : List ℕ) where
   pub block-other : (pool out : List Float) → full (weighBlock s q c pool out) ≡ false
   unfolding weighBlock
   block-other pool out = other counted _ _ _ refl (other counted _ _ _ refl (other counted _ _ _ refl (other counted _ _ _ refl refl)))
+
+  pub pump-other : (pool : List Float) (r : SampleRing) (n frames : ℕ) → full (weighPump s q c pool r n frames) ≡ false
+  unfolding weighPump
+  pump-other pool r n frames = other counted _ _ _ refl (other counted _ _ _ refl (other counted _ _ _ refl (other counted _ _ _ refl refl)))
 
   pub stop-other : (list : List ℕ) → full (weighStop s q c list) ≡ false
   unfolding weighStop
@@ -242,6 +258,15 @@ module _ (h : HostSession) (q c : List ℕ) where
   block-under pool out e =
       under (withStore (blockedBy h)) (withStore readBlocked) (withStore toldBlocked) _ _ _ _ _ e
       (λ k w. rw (number-says, leaves h _ k (block-other (sessionOf h) q c pool out) w))
+      (rw there-and-back)
+
+  -- a pump,
+  pub pump-under : (pool : List Float) (r : SampleRing) (store : List Float) (frames : ℕ) → weighHost h q c true ≡ 0
+      → withStore readPumped (pumpHost h q c pool r store frames) ≡ withStore toldPumped (pumpOf (sessionOf h) q c pool r store frames)
+  unfolding pumpHost pumpOf
+  pump-under pool r store frames e =
+      under (withStore (pumpedBy h)) (withStore readPumped) (withStore toldPumped) _ _ _ _ _ e
+      (λ k w. rw (number-says, leaves h _ k (pump-other (sessionOf h) q c pool r (length store) frames) w))
       (rw there-and-back)
 
   -- starting capture,

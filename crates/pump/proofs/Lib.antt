@@ -1,2 +1,4 @@
 pub mod Weighing
 pub mod Into
+pub mod Order
+pub mod Cut

@@ -24,6 +24,16 @@ abbrev pub saysPump : PumpAnswer → Says (ℕ × ℕ)
 saysPump (PumpAnswer.Pumped n p) = gives (n, p)
 saysPump (PumpAnswer.Refused k) = refused (numberOf k)
 
+-- the frames that an answer tells; a refused pump makes none,
+abbrev pub pumpedFrames : PumpAnswer → ℕ
+pumpedFrames (PumpAnswer.Pumped n p) = n
+pumpedFrames (PumpAnswer.Refused k) = 0
+
+-- and no passes
+abbrev pub pumpedPasses : PumpAnswer → ℕ
+pumpedPasses (PumpAnswer.Pumped n p) = p
+pumpedPasses (PumpAnswer.Refused k) = 0
+
 -- the frames asked for, held to half the free samples of a store of n
 abbrev pub framesMade : ℕ → SampleRing → ℕ → ℕ
 framesMade n r frames = min frames (freeOf n r / 2)

@@ -8,8 +8,9 @@ use native.Mathlib.Omega.{arith}
 use lib.ListN.{length, getD, set, take, drop, length-set, length-append}
 use lib.Seq.{sets, sets-eq, getD-set-same, getD-set-other}
 use lib.Ieee.{Float, nan}
-use Rattle.ring.specs.Ring.{placeAt, from, pushed}
-use Rattle.ring.proofs.Places.{place-straight, place-lt, place-apart, place-on}
+use Rattle.ring.specs.declared.SampleRing.{SampleRing}
+use Rattle.ring.specs.Ring.{ringAt, Within, heldOf, placeAt, from, waiting, pushed}
+use Rattle.ring.proofs.Places.{place-straight, place-lt, place-apart, place-on, tail-at, held-of}
 
 -- the store keeps its length
 pub pushed-length : (n : ℕ) (store : List Float) (t : ℕ) (xs : List Float) → length (pushed n store t xs) ≡ length store
@@ -36,6 +37,11 @@ pushed-place n store t k (x ∷ xs) e =
   where
     next : (j : ℕ) → placeAt n (j + 1) 0 ≡ placeAt n (placeAt n j 0) 1
     next j = ap (λ (i : ℕ). i % n) (omega arith) ∙ sym (place-on n j 0 1)
+
+-- as does one that was counted from another
+place-same : (n h k t : ℕ) → placeAt n h k ≡ t → placeAt n t 0 ≡ placeAt n (h + k) 0
+unfolding placeAt
+place-same n h k t e = ap (λ (j : ℕ). (j + 0) % n) (sym e) ∙ place-on n h k 0 ∙ ap (λ (j : ℕ). j % n) (omega arith)
 
 -- before the end: straight into the store
 pub pushed-straight : (store : List Float) (t : ℕ) (xs : List Float) → t + length xs ≤ length store
@@ -105,3 +111,36 @@ from-length store h zero = refl
 from-length store h (suc k) =
     let r : List Float = getD store (placeAt (length store) h k) nan ∷ [] in
     omega (arith, length-append (from store h k) r, from-length store h k)
+
+-- ---- a ring
+
+module _ (r : SampleRing) (store xs : List Float) (w : Within (length store) r) where
+  -- the ring with its tail past samples pushed from there on
+  abbrev pub behind : SampleRing
+  behind = ringAt (r .head) (placeAt (length store) (r .tail) (length xs))
+
+  -- it stays within its store,
+  pub behind-within : Within (length (pushed (length store) store (r .tail) xs)) behind
+  behind-within =
+      rw (pushed-length (length store) store (r .tail) xs)
+      (record { least = w .least; most = w .most; head = w .head; tail = place-lt (length store) (r .tail) (length xs) (omega (arith, w .least)) })
+
+  module _ (fits : length xs + heldOf (length store) r < length store) where
+    -- so many more wait,
+    pub behind-held : heldOf (length store) behind ≡ heldOf (length store) r + length xs
+    behind-held =
+        let n : ℕ = length store in
+        let k : ℕ = heldOf n r in
+        let e : placeAt n (r .tail) (length xs) ≡ placeAt n (r .head) (k + length xs) =
+        ap (λ (j : ℕ). placeAt n j (length xs)) (sym (tail-at n r w)) ∙ place-on n (r .head) k (length xs) in
+        ap (λ (j : ℕ). heldOf n (ringAt (r .head) j)) e ∙ held-of n (r .head) (k + length xs) (w .head) (omega arith)
+
+    -- and they are heard after those that waited
+    pub behind-waits : waiting behind (pushed (length store) store (r .tail) xs) ≡ waiting r store ++ xs
+    behind-waits =
+        let n : ℕ = length store in
+        let k : ℕ = heldOf n r in
+        let st : List Float = pushed n store (r .tail) xs in
+        let here : st ≡ pushed n store (r .head + k) xs = pushed-place n store (r .tail) (r .head + k) xs (place-same n (r .head) k (r .tail) (tail-at n r w)) in
+        let all : heldOf (length st) behind ≡ k + length xs = ap (λ (j : ℕ). heldOf j behind) (pushed-length n store (r .tail) xs) ∙ behind-held in
+        ap (from st (r .head)) all ∙ ap (λ (y : List Float). from y (r .head) (k + length xs)) here ∙ from-pushed xs store (r .head) k (w .head) (omega arith)
