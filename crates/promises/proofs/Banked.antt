@@ -33,9 +33,10 @@ use Rattle.clips.proofs.Loaded as load
 use Rattle.clips.proofs.Retired as retire
 use Rattle.control.specs.Snapshot.{applyOf}
 use Rattle.control.proofs.Kept.{snapshot-leaves, metrics-leave}
-use Rattle.promises.specs.Calls.{State, Call, load, retire, submit, transition, block, startCapture, stopCapture, replay, snapshot, apply, metrics, state, withSession, after, afterAll}
+use Rattle.promises.specs.Calls.{State, Call, load, retire, submit, transition, block, pump, startCapture, stopCapture, replay, snapshot, apply, metrics, state, withSession, after, afterAll}
 use Rattle.promises.specs.Kept.{Good}
 use Rattle.promises.specs.Stale.{AllGiven}
+use Rattle.promises.proofs.Pumping.{pump-step}
 use Rattle.promises.proofs.Leaves.{heart, submit-leaves, transition-leaves, replay-leaves, start-leaves, stop-leaves}
 use Rattle.promises.proofs.Kept.{types, keeps}
 
@@ -49,6 +50,10 @@ pub data Changes (x y : State) : Type 0 where
 heart-none : (x : State) (s : Session) (q c : List ℕ) → heart s ≡ heart (x .session) → Changes x (state s q c (x .pool))
 heart-none x s q c e = none (ap (λ (r : Settings × Bank × Stage). r .1) e) refl
 
+block-changes : (out : List Float) (x : State) → Changes x (after (block out) x)
+unfolding blockOf
+block-changes out x = unless-both {A = BlockAnswered × List Float} _ _ _ (λ a. Changes x (withSession x (a .0 .session))) (λ k. none refl refl) (λ fine. none refl refl)
+
 -- every call
 pub changes : (k : Call) (x : State) → Good x → Changes x (after k x)
 unfolding loadOf retireOf blockOf applyOf
@@ -61,7 +66,8 @@ changes (retire h) x g =
     (λ fine. retires h (retire.accepted (x .session) (x .queue) (x .capture) h fine .alive) refl refl)
 changes (submit y at) x g = heart-none x _ _ _ (submit-leaves (x .session) (x .queue) (x .capture) y at)
 changes (transition f at) x g = heart-none x _ _ _ (transition-leaves (x .session) (x .queue) (x .capture) f at)
-changes (block out) x g = unless-both {A = BlockAnswered × List Float} _ _ _ (λ a. Changes x (withSession x (a .0 .session))) (λ k. none refl refl) (λ fine. none refl refl)
+changes (block out) x g = block-changes out x
+changes (pump f n) x g = pump-step x f n (λ m y. Changes x y) (λ out. block-changes out x) (none refl refl)
 changes startCapture x g = heart-none x _ _ _ (start-leaves (x .session) (x .queue) (x .capture))
 changes (stopCapture list) x g = heart-none x _ _ _ (stop-leaves (x .session) (x .queue) (x .capture) list)
 changes (replay list) x g = heart-none x _ _ _ (replay-leaves (x .session) (x .queue) (x .capture) list)

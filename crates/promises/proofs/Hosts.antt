@@ -15,6 +15,8 @@ use Rattle.session.specs.Refusal.{numberOf}
 use Rattle.session.specs.Answer.{Says}
 use Rattle.session.proofs.Refuse.{unless-both}
 use Rattle.block.specs.Block.{blockOf}
+use Rattle.ring.specs.declared.SampleRing.{SampleRing}
+use Rattle.pump.specs.Pump.{pumpOf}
 use Rattle.clips.specs.declared.LoadAnswered.{LoadAnswered}
 use Rattle.clips.specs.Open.{noSession, openOf}
 use Rattle.clips.specs.Load.{loadOf}
@@ -33,16 +35,17 @@ use Rattle.host.specs.declared.HostAnswered.{HostAnswered}
 use Rattle.host.specs.declared.HostLoaded.{HostLoaded}
 use Rattle.host.specs.declared.HostSubmitted.{HostSubmitted}
 use Rattle.host.specs.declared.HostBlocked.{HostBlocked}
+use Rattle.host.specs.declared.HostPumped.{HostPumped}
 use Rattle.host.specs.declared.HostReplayed.{HostReplayed}
 use Rattle.host.specs.declared.HostStopped.{HostStopped}
 use Rattle.host.specs.declared.HostSnapped.{HostSnapped}
 use Rattle.host.specs.declared.HostMetrics.{HostMetrics}
 use Rattle.host.specs.Kept.{kindsOk, isSession, hostOf}
-use Rattle.host.specs.Answers.{saysBy, withDropped, turned, weighHost, unless as unlessHost, refused as refusedHost, answeredBy, loadRefused, loadedBy, openedBy, submitRefused, submittedBy, blockRefused, blockedBy, replayRefused, replayedBy, stopRefused, stoppedBy, snapshotRefused, snappedBy, metricsRefused, meteredBy}
-use Rattle.host.specs.Calls.{openHost, loadHost, retireHost, submitHost, transitionHost, replayHost, blockHost, startCaptureHost, stopCaptureHost, snapshotHost, applyHost, metricsHost}
+use Rattle.host.specs.Answers.{saysBy, withDropped, turned, weighHost, unless as unlessHost, refused as refusedHost, answeredBy, loadRefused, loadedBy, openedBy, submitRefused, submittedBy, blockRefused, blockedBy, pumpRefused, pumpedBy, replayRefused, replayedBy, stopRefused, stoppedBy, snapshotRefused, snappedBy, metricsRefused, meteredBy}
+use Rattle.host.specs.Calls.{openHost, loadHost, retireHost, submitHost, transitionHost, replayHost, blockHost, pumpHost, startCaptureHost, stopCaptureHost, snapshotHost, applyHost, metricsHost}
 use Rattle.host.proofs.Round.{names}
-use Rattle.host.proofs.Refusals.{withStore, withStores, turned-same, weighed-fine, weighed-unnamed, each-way, load-stays, retire-stays, submit-stays, transition-stays, replay-stays, block-stays, start-stays, stop-stays, snapshot-stays, apply-stays, metrics-stays}
-use Rattle.host.proofs.Under.{open-under, load-under, retire-under, submit-under, transition-under, replay-under, block-under, start-under, stop-under, snapshot-under, apply-under, metrics-under}
+use Rattle.host.proofs.Refusals.{withStore, withStores, turned-same, weighed-fine, weighed-unnamed, each-way, load-stays, retire-stays, submit-stays, transition-stays, replay-stays, block-stays, pump-stays, start-stays, stop-stays, snapshot-stays, apply-stays, metrics-stays}
+use Rattle.host.proofs.Under.{open-under, load-under, retire-under, submit-under, transition-under, replay-under, block-under, pump-under, start-under, stop-under, snapshot-under, apply-under, metrics-under}
 use Rattle.promises.specs.Calls.{State, state, withSession, code, refusal, after, Opening, opened, Reached, atOpening, afterCall}
 use Rattle.promises.specs.Hosts as hosts
 use Rattle.promises.specs.Hosts.{HostState, HostCall, hostState, keeping, stateOf, hostRefusal, hostAfter, hostOut, hostList, hostOpened, named, callOf, HostReached, DoesItsCall, OpensAsCall, ForHosts, HostRefused}
@@ -61,6 +64,7 @@ after-refused (hosts.submit y at) x n =
 after-refused (hosts.transition f at) x n =
     ap (λ (z : HostSubmitted × List ℕ × List ℕ). hostState (z .0 .session) (z .1) (z .2) (x .pool)) (transition-stays (x .session) (x .queue) (x .capture) f at n)
 after-refused (hosts.block out) x n = ap (λ (z : HostBlocked × List Float). keeping x (z .0 .session)) (block-stays (x .session) (x .queue) (x .capture) (x .pool) out n)
+after-refused (hosts.pump f k) x n = ap (λ (z : HostPumped × List Float). keeping x (z .0 .session)) (pump-stays (x .session) (x .queue) (x .capture) (x .pool) (f .ring) (f .store) k n)
 after-refused hosts.startCapture x n = ap (λ (z : HostAnswered). keeping x (z .session)) (start-stays (x .session) (x .queue) (x .capture) n)
 after-refused (hosts.stopCapture list) x n = ap (λ (z : HostStopped × List ℕ). keeping x (z .0 .session)) (stop-stays (x .session) (x .queue) (x .capture) list n)
 after-refused (hosts.replay list) x n =
@@ -115,6 +119,17 @@ does (hosts.block out) x w =
       state = ap (λ (z : (Says ℕ × Session) × List Float). withSession (stateOf x) (z .0 .1)) e;
       output = ap (λ (z : (Says ℕ × Session) × List Float). z .1) e;
     }
+does (hosts.pump f n) x w =
+    let e = pump-under (x .session) (x .queue) (x .capture) (x .pool) (f .ring) (f .store) n w in
+    record {
+      answer = (
+        ap (λ (z : (Says (ℕ × ℕ) × Session × SampleRing) × List Float). z .0 .0) e,
+        ap (λ (z : (Says (ℕ × ℕ) × Session × SampleRing) × List Float). record { ring = z .0 .2; store = z .1 }) e,
+      );
+      number = code-by _ _ ∙ ap (λ (z : (Says (ℕ × ℕ) × Session × SampleRing) × List Float). code (z .0 .0)) e;
+      state = ap (λ (z : (Says (ℕ × ℕ) × Session × SampleRing) × List Float). withSession (stateOf x) (z .0 .1)) e;
+      output = refl;
+    }
 does hosts.startCapture x w =
     let e = start-under (x .session) (x .queue) (x .capture) w in
     record { answer = ap (λ (z : Says (Unit {0}) × Session). z .0) e; number = code-by _ _ ∙ ap (λ (z : Says (Unit {0}) × Session). code (z .0)) e; state = ap (λ (z : Says (Unit {0}) × Session). withSession (stateOf x) (z .1)) e; output = refl }
@@ -163,7 +178,7 @@ turned-names n h e = cond-both (λ (t : HostSession). isSession t ≡ true) (eqb
 
 -- and so does every function
 names-after : (k : HostCall) (x : HostState) → isSession (x .session) ≡ true → isSession (hostAfter k x .session) ≡ true
-unfolding loadHost loadOf retireHost retireOf submitHost submitOf taken transitionHost transitionOf replayHost replayOf blockHost blockOf startCaptureHost startCaptureOf stopCaptureHost stopCaptureOf snapshotHost control.snapshotOf applyHost control.applyOf metricsHost metricsOf
+unfolding loadHost loadOf retireHost retireOf submitHost submitOf taken transitionHost transitionOf replayHost replayOf blockHost blockOf pumpHost pumpOf startCaptureHost startCaptureOf stopCaptureHost stopCaptureOf snapshotHost control.snapshotOf applyHost control.applyOf metricsHost metricsOf
 names-after (hosts.load samples kind extent rate) x e =
     let h : HostSession = x .session in
     each-way (λ (z : HostLoaded × List Float). isSession (z .0 .session) ≡ true) (λ n. (loadRefused h n, x .pool)) (withStore (loadedBy h)) _ _ _ _
@@ -182,6 +197,10 @@ names-after (hosts.transition f at) x e =
 names-after (hosts.block out) x e =
     let h : HostSession = x .session in
     each-way (λ (z : HostBlocked × List Float). isSession (z .0 .session) ≡ true) (λ n. (blockRefused h n, out)) (withStore (blockedBy h)) _ _ _ _
+    (λ m. turned-names m h e) (λ k. turned-names (numberOf k) h e) (names _)
+names-after (hosts.pump f n) x e =
+    let h : HostSession = x .session in
+    each-way (λ (z : HostPumped × List Float). isSession (z .0 .session) ≡ true) (λ n. (pumpRefused h (f .ring) n, f .store)) (withStore (pumpedBy h)) _ _ _ _
     (λ m. turned-names m h e) (λ k. turned-names (numberOf k) h e) (names _)
 names-after hosts.startCapture x e =
     let h : HostSession = x .session in
@@ -229,6 +248,7 @@ own-number (hosts.retire h) x f e = absurd (never f)
 own-number (hosts.submit y at) x f e = own (λ (z : HostSubmitted × List ℕ × List ℕ). z .0 .refusal) _ _ _ e refl
 own-number (hosts.transition g at) x f e = own (λ (z : HostSubmitted × List ℕ × List ℕ). z .0 .refusal) _ _ _ e refl
 own-number (hosts.block out) x f e = absurd (never f)
+own-number (hosts.pump g n) x f e = absurd (never f)
 own-number hosts.startCapture x f e = absurd (never f)
 own-number (hosts.stopCapture list) x f e = absurd (never f)
 own-number (hosts.replay list) x f e = absurd (never f)
@@ -285,6 +305,7 @@ host-refused =
     record {
       state = after-refused;
       output = λ x out n. ap (λ (z : HostBlocked × List Float). z .1) (block-stays (x .session) (x .queue) (x .capture) (x .pool) out n);
+      feed = λ x f k n. ap (λ (z : HostPumped × List Float). record { ring = z .0 .ring; store = z .1 }) (pump-stays (x .session) (x .queue) (x .capture) (x .pool) (f .ring) (f .store) k n);
       list = λ x list n. ap (λ (z : HostStopped × List ℕ). z .1) (stop-stays (x .session) (x .queue) (x .capture) list n);
       opening = λ o n. (refl, refl, ap (λ (x : State). x .pool) (open-does o .state) ∙ refused .opening o (λ (z : opened o .0 ≡ 0). n (open-does o .number ∙ z)) .2);
     }

@@ -31,8 +31,9 @@ use Rattle.submission.proofs.Kept.{submit-kept, transition-kept, replay-kept}
 use Rattle.control.specs.declared.PerformanceSnapshot.{PerformanceSnapshot}
 use Rattle.control.specs.Snapshot.{applyOf}
 use Rattle.control.proofs.Kept.{start-kept, stop-kept, snapshot-leaves, metrics-leave, apply-kept, apply-typed}
-use Rattle.promises.specs.Calls.{State, Call, load, retire, submit, transition, block, startCapture, stopCapture, replay, snapshot, apply, metrics, code, after, Opening, opened, atOpening, afterCall}
+use Rattle.promises.specs.Calls.{State, Call, load, retire, submit, transition, block, pump, startCapture, stopCapture, replay, snapshot, apply, metrics, code, after, Opening, opened, atOpening, afterCall}
 use Rattle.promises.specs.Kept.{Good, Keeps, ReachedGood}
+use Rattle.promises.proofs.Pumping.{pump-step}
 use Rattle.promises.proofs.Fine.{zero-fine}
 use Rattle.promises.proofs.Leaves.{heart, submit-leaves, transition-leaves, replay-leaves, start-leaves, stop-leaves}
 
@@ -88,12 +89,19 @@ settings-stay (retire h) x = retire-settings (x .session) (x .queue) (x .capture
 settings-stay (submit y at) x = ap heart-settings (submit-leaves (x .session) (x .queue) (x .capture) y at)
 settings-stay (transition f at) x = ap heart-settings (transition-leaves (x .session) (x .queue) (x .capture) f at)
 settings-stay (block out) x = block-settings (x .session) (x .queue) (x .capture) (x .pool) out
+settings-stay (pump f n) x = pump-step x f n (λ m y. y .session .settings ≡ x .session .settings) (λ out. block-settings (x .session) (x .queue) (x .capture) (x .pool) out) refl
 settings-stay startCapture x = ap heart-settings (start-leaves (x .session) (x .queue) (x .capture))
 settings-stay (stopCapture list) x = ap heart-settings (stop-leaves (x .session) (x .queue) (x .capture) list)
 settings-stay (replay list) x = ap heart-settings (replay-leaves (x .session) (x .queue) (x .capture) list)
 settings-stay snapshot x = ap (λ (s : Session). s .settings) (snapshot-leaves (x .session) (x .queue) (x .capture))
 settings-stay (apply y) x = apply-settings (x .session) (x .queue) (x .capture) y
 settings-stay metrics x = ap (λ (s : Session). s .settings) (metrics-leave (x .session) (x .queue) (x .capture))
+
+block-good : (out : List Float) (x : State) → Good x → Good (after (block out) x)
+block-good out x p =
+    let s : Session = x .session in
+    good _ (call-keeps s (x .queue) (x .capture) (x .pool) (p .formed) (p .voices) out) (rw (block-settings s (x .queue) (x .capture) (x .pool) out) (p .pooled))
+    (block-typed s (x .queue) (x .capture) (x .pool) out (p .formed) (types x p))
 
 -- every call keeps a state good
 pub keeps : Keeps
@@ -108,10 +116,8 @@ keeps (retire h) x g p =
     (retire-typed s (x .queue) (x .capture) h (types x p))
 keeps (submit y at) x g p = left (submit y at) x (submit-leaves (x .session) (x .queue) (x .capture) y at) refl (submit-kept (x .session) (x .queue) (x .capture) (p .formed) at y g) p
 keeps (transition f at) x g p = left (transition f at) x (transition-leaves (x .session) (x .queue) (x .capture) f at) refl (transition-kept (x .session) (x .queue) (x .capture) (p .formed) at f) p
-keeps (block out) x g p =
-    let s : Session = x .session in
-    good _ (call-keeps s (x .queue) (x .capture) (x .pool) (p .formed) (p .voices) out) (rw (block-settings s (x .queue) (x .capture) (x .pool) out) (p .pooled))
-    (block-typed s (x .queue) (x .capture) (x .pool) out (p .formed) (types x p))
+keeps (block out) x g p = block-good out x p
+keeps (pump f n) x g p = pump-step x f n (λ m y. Good y) (λ out. block-good out x p) p
 keeps startCapture x g p = left startCapture x (start-leaves (x .session) (x .queue) (x .capture)) refl (start-kept (x .session) (x .queue) (x .capture) (p .formed)) p
 keeps (stopCapture list) x g p = left (stopCapture list) x (stop-leaves (x .session) (x .queue) (x .capture) list) refl (stop-kept (x .session) (x .queue) (x .capture) list (p .formed)) p
 keeps (replay list) x g p = left (replay list) x (replay-leaves (x .session) (x .queue) (x .capture) list) refl (replay-kept (x .capture) (x .session) (x .queue) list (p .formed)) p

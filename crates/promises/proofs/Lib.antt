@@ -1,5 +1,6 @@
 pub mod Numbers
 mod Leaves
+pub mod Pumping
 mod Stages
 pub mod Tail
 pub mod Laps
@@ -13,6 +14,7 @@ pub mod Never
 pub mod Exchanged
 mod Fine
 pub mod Cut
+pub mod Feed
 pub mod Later
 pub mod Refused
 pub mod Retire

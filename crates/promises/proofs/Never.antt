@@ -45,8 +45,9 @@ use Rattle.control.specs.Answer.{saysStop, saysSnapshot, saysMetrics}
 use Rattle.control.specs.Capture.{weighStop, startCaptureOf, stopCaptureOf}
 use Rattle.control.specs.Snapshot.{snapshotOf, weighApply, applyOf}
 use Rattle.control.specs.Metrics.{metricsOf}
-use Rattle.promises.specs.Calls.{State, Call, load, retire, submit, transition, block, startCapture, stopCapture, replay, snapshot, apply, metrics, code, refusal}
+use Rattle.promises.specs.Calls.{State, Call, load, retire, submit, transition, block, pump, startCapture, stopCapture, replay, snapshot, apply, metrics, code, refusal}
 use Rattle.promises.specs.Kept.{Good, NeverIllFormed}
+use Rattle.promises.proofs.Pumping.{pump-step}
 use Rattle.promises.proofs.Kept.{reached-good}
 
 -- ---- a chain of refusals that gives neither 1 nor 2
@@ -111,6 +112,11 @@ neither w refusal done told e f g =
     (λ (h : told (refusal k) ≡ 1). omega (arith, f k), λ (h : told (refusal k) ≡ 2). omega (arith, f k)))
     (λ fine. (λ (h : told done ≡ 1). omega arith, λ (h : told done ≡ 2). omega arith))
 
+block-neither : (out : List Float) (x : State) → Good x → Neither (refusal (block out) x)
+unfolding blockOf
+block-neither out x g =
+    neither {A = BlockAnswered × List Float} _ _ _ (λ z. code (saysBlock (z .0 .answer))) (block-other (x .session) (x .queue) (x .capture) (g .formed) (x .pool) (g .pooled) out) (λ k. refl) refl
+
 step-neither : (k : Call) (x : State) → Good x → Neither (refusal k x)
 unfolding loadOf retireOf submitOf taken transitionOf blockOf startCaptureOf stopCaptureOf replayOf snapshotOf applyOf metricsOf
 step-neither (load samples kind rate) x g =
@@ -121,8 +127,8 @@ step-neither (submit y at) x g =
     neither {A = SubmitAnswered × List ℕ × List ℕ} _ _ _ (λ z. code (saysSubmit (z .0 .answer))) (submit-other (x .session) (x .queue) (x .capture) (g .formed) y) (λ k. refl) refl
 step-neither (transition f at) x g =
     neither {A = SubmitAnswered × List ℕ × List ℕ} _ _ _ (λ z. code (saysSubmit (z .0 .answer))) (transition-other (x .session) (x .queue) (x .capture) (g .formed) f) (λ k. refl) refl
-step-neither (block out) x g =
-    neither {A = BlockAnswered × List Float} _ _ _ (λ z. code (saysBlock (z .0 .answer))) (block-other (x .session) (x .queue) (x .capture) (g .formed) (x .pool) (g .pooled) out) (λ k. refl) refl
+step-neither (block out) x g = block-neither out x g
+step-neither (pump f n) x g = pump-step x f n (λ m y. Neither m) (λ out. block-neither out x g) (λ (e : _≡_ {A = ℕ} 23 1). omega arith, λ (e : _≡_ {A = ℕ} 23 2). omega arith)
 step-neither startCapture x g = neither {A = Answered} _ _ _ (λ z. code (says (z .answer))) (only-other (x .session) (x .queue) (x .capture) (g .formed)) (λ k. refl) refl
 step-neither (stopCapture list) x g =
     neither {A = StopAnswered × List ℕ} _ _ _ (λ z. code (saysStop (z .0 .answer))) (stop-other (x .session) (x .queue) (x .capture) (g .formed) list) (λ k. refl) refl

@@ -17,6 +17,8 @@ use Rattle.session.specs.WellFormed.{wellFormed, weighOnly}
 use Rattle.session.proofs.Refuse.{stop, unless-refused, refused-or-done, unless-both}
 use Rattle.block.specs.declared.BlockAnswered.{BlockAnswered}
 use Rattle.block.specs.Block.{saysBlock, weighBlock, blockOf}
+use Rattle.pump.specs.declared.Pumped.{Pumped}
+use Rattle.pump.specs.Pump.{saysPump, weighPump, pumpOf}
 use Rattle.clips.specs.declared.LoadAnswered.{LoadAnswered}
 use Rattle.clips.specs.Answer.{saysLoad}
 use Rattle.clips.specs.Open.{noSession, openOf}
@@ -38,8 +40,9 @@ use Rattle.control.specs.Capture.{weighStop, startCaptureOf, stopCaptureOf}
 use Rattle.control.specs.Snapshot.{snapshotOf, weighApply, applyOf}
 use Rattle.control.specs.Metrics.{metricsOf}
 use Rattle.host.proofs.Under.{full, load-other, retire-other, block-other, only-other, stop-other, apply-other}
-use Rattle.promises.specs.Calls.{State, Call, load, retire, submit, transition, block, startCapture, stopCapture, replay, snapshot, apply, metrics, withSession, state, code, refusal, after, outOf, Opening, opened}
+use Rattle.promises.specs.Calls.{State, Feed, Call, load, retire, submit, transition, block, pump, startCapture, stopCapture, replay, snapshot, apply, metrics, withSession, state, code, refusal, after, outOf, feedOf, Opening, opened}
 use Rattle.promises.specs.Refused.{countedBy, listOf, Refused}
+use Rattle.promises.proofs.Pumping.{pump-step}
 
 -- ---- what is left
 
@@ -68,6 +71,12 @@ pub lent-back : {A B : Type 0} (w : Weighed) (refusal : Refusal → A) (done : A
     → told (unless w refusal done) ≢ 0 → lent (unless w refusal done) ≡ b
 lent-back w refusal done told lent b fine g = unless-both w refusal done (λ a. told a ≢ 0 → lent a ≡ b) (λ k n. g k) (λ f n. absurd (n fine))
 
+block-refused : (out : List Float) (x : State) → refusal (block out) x ≢ 0 → after (block out) x ≡ withSession x (countedBy (refusal (block out) x) (x .session))
+unfolding blockOf
+block-refused out x =
+    leaves {A = BlockAnswered × List Float} _ _ _ (λ z. code (saysBlock (z .0 .answer))) (λ z. withSession x (z .0 .session)) x (λ k. refl) refl
+    (block-other (x .session) (x .queue) (x .capture) (x .pool) out) (λ k. refl)
+
 step-refused : (k : Call) (x : State) → refusal k x ≢ 0 → after k x ≡ withSession x (countedBy (refusal k x) (x .session))
 unfolding loadOf retireOf submitOf taken transitionOf blockOf startCaptureOf stopCaptureOf replayOf snapshotOf applyOf metricsOf
 step-refused (load samples kind rate) x =
@@ -81,9 +90,8 @@ step-refused (submit y at) x =
 step-refused (transition f at) x =
     counts {A = SubmitAnswered × List ℕ × List ℕ} _ _ _ (λ z. code (saysSubmit (z .0 .answer))) (λ z. state (z .0 .session) (z .1) (z .2) (x .pool)) x (λ k. refl) refl
     (λ k. ap (withSession x) (turned-away k (x .session)))
-step-refused (block out) x =
-    leaves {A = BlockAnswered × List Float} _ _ _ (λ z. code (saysBlock (z .0 .answer))) (λ z. withSession x (z .0 .session)) x (λ k. refl) refl
-    (block-other (x .session) (x .queue) (x .capture) (x .pool) out) (λ k. refl)
+step-refused (block out) x = block-refused out x
+step-refused (pump f n) x = pump-step x f n (λ m y. m ≢ 0 → y ≡ withSession x (countedBy m (x .session))) (λ out. block-refused out x) (λ m. refl)
 step-refused startCapture x =
     leaves {A = Answered} _ _ _ (λ z. code (says (z .answer))) (λ z. withSession x (z .session)) x (λ k. refl) refl (only-other (x .session) (x .queue) (x .capture)) (λ k. refl)
 step-refused (stopCapture list) x =
@@ -110,12 +118,13 @@ ones t rest refusal done told e says =
     ∙ says Refusal.NotWellFormed
 
 ill-formed : (k : Call) (x : State) → wellFormed (x .session) (x .queue) (x .capture) ≡ false → refusal k x ≡ 1
-unfolding loadOf retireOf submitOf taken transitionOf blockOf startCaptureOf stopCaptureOf replayOf snapshotOf applyOf metricsOf weighLoad weighRetire weighSubmit weighTransition weighBlock weighOnly weighStop weighApply
+unfolding loadOf retireOf submitOf taken transitionOf blockOf pumpOf startCaptureOf stopCaptureOf replayOf snapshotOf applyOf metricsOf weighLoad weighRetire weighSubmit weighTransition weighBlock weighPump weighOnly weighStop weighApply
 ill-formed (load samples kind rate) x e = ones {A = LoadAnswered × List Float} _ _ _ _ (λ z. code (saysLoad (z .0 .answer))) e (λ k. refl)
 ill-formed (retire h) x e = ones {A = Answered} _ _ _ _ (λ z. code (says (z .answer))) e (λ k. refl)
 ill-formed (submit y at) x e = ones {A = SubmitAnswered × List ℕ × List ℕ} _ _ _ _ (λ z. code (saysSubmit (z .0 .answer))) e (λ k. refl)
 ill-formed (transition f at) x e = ones {A = SubmitAnswered × List ℕ × List ℕ} _ _ _ _ (λ z. code (saysSubmit (z .0 .answer))) e (λ k. refl)
 ill-formed (block out) x e = ones {A = BlockAnswered × List Float} _ _ _ _ (λ z. code (saysBlock (z .0 .answer))) e (λ k. refl)
+ill-formed (pump f n) x e = ones {A = Pumped × List Float} _ _ _ _ (λ z. code (saysPump (z .0 .answer))) e (λ k. refl)
 ill-formed startCapture x e = ones {A = Answered} _ _ _ _ (λ z. code (says (z .answer))) e (λ k. refl)
 ill-formed (stopCapture list) x e = ones {A = StopAnswered × List ℕ} _ _ _ _ (λ z. code (saysStop (z .0 .answer))) e (λ k. refl)
 ill-formed (replay list) x e = ones {A = ReplayAnswered × List ℕ} _ _ _ _ (λ z. code (saysReplay (z .0 .answer))) e (λ k. refl)
@@ -128,6 +137,11 @@ ill-formed metrics x e = ones {A = MetricsAnswered} _ _ _ _ (λ z. code (saysMet
 output-refused : (x : State) (out : List Float) → refusal (block out) x ≢ 0 → outOf x out ≡ out
 unfolding blockOf
 output-refused x out = lent-back {A = BlockAnswered × List Float} _ _ _ (λ z. code (saysBlock (z .0 .answer))) (λ z. z .1) out refl (λ k. refl)
+
+feed-refused : (x : State) (f : Feed) (n : ℕ) → refusal (pump f n) x ≢ 0 → feedOf x f n ≡ f
+unfolding pumpOf
+feed-refused x f n =
+    lent-back {A = Pumped × List Float} {B = Feed} _ _ _ (λ z. code (saysPump (z .0 .answer))) (λ z. record { ring = z .0 .ring; store = z .1 }) f refl (λ k. refl)
 
 list-refused : (x : State) (list : List ℕ) → refusal (stopCapture list) x ≢ 0 → listOf x list ≡ list
 unfolding stopCaptureOf
@@ -142,6 +156,7 @@ refused =
     record {
       state = step-refused;
       output = output-refused;
+      feed = feed-refused;
       list = list-refused;
       opening = λ o n. (
         refl,

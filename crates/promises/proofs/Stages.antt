@@ -36,9 +36,10 @@ use Rattle.clips.specs.Retire.{retireOf}
 use Rattle.control.specs.declared.PerformanceSnapshot.{PerformanceSnapshot}
 use Rattle.control.specs.Snapshot.{stageBy, applyOf}
 use Rattle.control.proofs.Kept.{snapshot-leaves, metrics-leave}
-use Rattle.promises.specs.Calls.{State, Call, load, retire, submit, transition, block, startCapture, stopCapture, replay, snapshot, apply, metrics, after, Reached, atOpening, afterCall}
+use Rattle.promises.specs.Calls.{State, Call, load, retire, submit, transition, block, pump, startCapture, stopCapture, replay, snapshot, apply, metrics, after, Reached, atOpening, afterCall}
 use Rattle.promises.specs.Kept.{Good}
 use Rattle.promises.specs.Together.{nextStage}
+use Rattle.promises.proofs.Pumping.{pump-step}
 use Rattle.promises.proofs.Leaves.{submit-leaves, transition-leaves, replay-leaves, start-leaves, stop-leaves}
 use Rattle.promises.proofs.Kept.{settings-stay, reached-good}
 use Rattle.promises.proofs.Banked.{Changes, changes}
@@ -108,6 +109,7 @@ module _ (P : Settings → Bank → Stage → Type 0) where
     after-has (submit y at) x g p = left-has (submit y at) x g (ap heart-stage (submit-leaves (x .session) (x .queue) (x .capture) y at)) p
     after-has (transition f at) x g p = left-has (transition f at) x g (ap heart-stage (transition-leaves (x .session) (x .queue) (x .capture) f at)) p
     after-has (block out) x g p = block-has (x .session) (x .queue) (x .capture) p (g .formed) (g .voices) (x .pool) out
+    after-has (pump f n) x g p = pump-step x f n (λ m y. Has (y .session)) (λ out. block-has (x .session) (x .queue) (x .capture) p (g .formed) (g .voices) (x .pool) out) p
     after-has startCapture x g p = left-has startCapture x g (ap heart-stage (start-leaves (x .session) (x .queue) (x .capture))) p
     after-has (stopCapture list) x g p = left-has (stopCapture list) x g (ap heart-stage (stop-leaves (x .session) (x .queue) (x .capture) list)) p
     after-has (replay list) x g p = left-has (replay list) x g (ap heart-stage (replay-leaves (x .session) (x .queue) (x .capture) list)) p

@@ -56,8 +56,9 @@ use Rattle.control.specs.declared.StopAnswered.{StopAnswered}
 use Rattle.control.specs.Capture.{startCaptureOf, stopCaptureOf}
 use Rattle.control.specs.Snapshot.{applyOf}
 use Rattle.control.proofs.Kept.{snapshot-leaves, metrics-leave}
-use Rattle.promises.specs.Calls.{State, Call, load, retire, submit, transition, block, startCapture, stopCapture, replay, snapshot, apply, metrics, refusal, after, Given, Reached, atOpening, afterCall}
+use Rattle.promises.specs.Calls.{State, Call, load, retire, submit, transition, block, pump, startCapture, stopCapture, replay, snapshot, apply, metrics, refusal, after, Given, Reached, atOpening, afterCall}
 use Rattle.promises.specs.Kept.{Good}
+use Rattle.promises.proofs.Pumping.{pump-step}
 use Rattle.promises.proofs.Fine.{accepts}
 use Rattle.promises.proofs.Kept.{reached-good}
 use Rattle.promises.proofs.Exchanged.{submit-accepts}
@@ -177,6 +178,7 @@ module _ (P : Command → Type 0) (taken-has : (s : Session) (q : List ℕ) (spa
   done-all (submit y at) x v g e p = submit-all (x .session) (x .queue) (x .capture) p y at v (submit-accepts x y at e)
   done-all (transition f at) x v g e p = transition-all (x .session) (x .queue) (x .capture) p f at (accepts (transitionOf (x .session) (x .queue) (x .capture) f at .0 .answer) e)
   done-all (block out) x v g e p = block-all (x .session) (x .queue) (x .capture) p (x .pool) out
+  done-all (pump f n) x v g e p = pump-step x f n (λ m y. AllOf y) (λ out. block-all (x .session) (x .queue) (x .capture) p (x .pool) out) p
   done-all startCapture x v g e p = start-all (x .session) (x .queue) (x .capture) p
   done-all (stopCapture list) x v g e p = stop-all (x .session) (x .queue) (x .capture) p list
   done-all (replay list) x v g e p = replay-all (x .capture) (x .session) (x .queue) list (g .formed) p

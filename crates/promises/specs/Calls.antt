@@ -14,6 +14,9 @@ use Rattle.stage.specs.declared.Settings.{Settings}
 use Rattle.session.specs.declared.Session.{Session}
 use Rattle.session.specs.Answer.{Says, refused, gives, says}
 use Rattle.block.specs.Block.{saysBlock, reported, blockOf}
+use Rattle.ring.specs.declared.SampleRing.{SampleRing}
+use Rattle.pump.specs.declared.Pumped.{Pumped}
+use Rattle.pump.specs.Pump.{saysPump, pumpOf}
 use Rattle.clips.specs.Answer.{saysLoad}
 use Rattle.clips.specs.Open.{openOf}
 use Rattle.clips.specs.Load.{loadOf}
@@ -43,6 +46,11 @@ state s q c p = record { session = s; queue = q; capture = c; pool = p }
 abbrev pub withSession : State → Session → State
 withSession x s = state s (x .queue) (x .capture) (x .pool)
 
+-- a ring with its store, as the call before left them
+pub record Feed : Type 0 where
+  pub ring : SampleRing
+  pub store : List Float
+
 -- the calls on a session, with what each is given
 pub data Call : Type 0 where
   load : List Float → Kind → ℕ → Call
@@ -50,6 +58,7 @@ pub data Call : Type 0 where
   submit : Submission → At → Call
   transition : SongFrame → At → Call
   block : List Float → Call
+  pump : Feed → ℕ → Call
   startCapture : Call
   stopCapture : List ℕ → Call
   replay : List ℕ → Call
@@ -61,6 +70,10 @@ pub data Call : Type 0 where
 abbrev pub code : {A : Type 0} → Says A → ℕ
 code (refused k) = k
 code (gives v) = 0
+
+-- what a pump gives: answer, session and ring; store
+abbrev pub pumping : State → Feed → ℕ → Pumped × List Float
+pumping x f n = pumpOf (x .session) (x .queue) (x .capture) (x .pool) (f .ring) (f .store) n
 
 -- a call: the number of its refusal, and the state that it leaves
 abbrev pub step : Call → State → ℕ × State
@@ -79,6 +92,9 @@ step (transition f at) x =
 step (block out) x =
     let o = blockOf (x .session) (x .queue) (x .capture) (x .pool) out in
     (code (saysBlock (o .0 .answer)), withSession x (o .0 .session))
+step (pump f n) x =
+    let o = pumping x f n in
+    (code (saysPump (o .0 .answer)), withSession x (o .0 .session))
 step startCapture x =
     let o = startCaptureOf (x .session) (x .queue) (x .capture) in
     (code (says (o .answer)), withSession x (o .session))
@@ -114,19 +130,24 @@ outOf x out = blockOf (x .session) (x .queue) (x .capture) (x .pool) out .1
 abbrev pub reportOf : State → List Float → ℕ
 reportOf x out = reported (blockOf (x .session) (x .queue) (x .capture) (x .pool) out .0 .answer)
 
--- what is heard of a call: of a block its output, else nothing
+-- what is heard of a call: of a block its output, else nothing; what a pump makes waits in its ring
 abbrev pub heard : Call → State → List Float
 heard (load samples kind rate) x = []
 heard (retire h) x = []
 heard (submit y at) x = []
 heard (transition f at) x = []
 heard (block out) x = outOf x out
+heard (pump f n) x = []
 heard startCapture x = []
 heard (stopCapture list) x = []
 heard (replay list) x = []
 heard snapshot x = []
 heard (apply y) x = []
 heard metrics x = []
+
+-- the ring and its store after a pump
+abbrev pub feedOf : State → Feed → ℕ → Feed
+feedOf x f n = record { ring = pumping x f n .0 .ring; store = pumping x f n .1 }
 
 -- calls one after the other: what they leave
 abbrev pub afterAll : List Call → State → State
@@ -166,6 +187,7 @@ Given (retire h) = Unit {0}
 Given (submit y at) = typed (commandOf y) ≡ true
 Given (transition f at) = Unit {0}
 Given (block out) = Unit {0}
+Given (pump f n) = Unit {0}
 Given startCapture = Unit {0}
 Given (stopCapture list) = Unit {0}
 Given (replay list) = Unit {0}

@@ -18,20 +18,22 @@ use Rattle.submission.specs.Submit.{submitOf}
 use Rattle.submission.specs.Transition.{transitionOf}
 use Rattle.submission.specs.Replay.{replayOf}
 use Rattle.block.specs.Block.{saysBlock, blockOf}
+use Rattle.pump.specs.Pump.{saysPump}
 use Rattle.control.specs.Answer.{saysStop, saysSnapshot, saysMetrics}
 use Rattle.control.specs.Capture.{startCaptureOf, stopCaptureOf}
 use Rattle.control.specs.Snapshot as control
 use Rattle.control.specs.Metrics.{metricsOf}
 use Rattle.host.specs.declared.HostSession.{HostSession}
+use Rattle.host.specs.declared.HostPumped.{HostPumped}
 use Rattle.host.specs.declared.HostCommand.{HostCommand}
 use Rattle.host.specs.declared.HostAt.{HostAt}
 use Rattle.host.specs.declared.HostSnapshot.{HostSnapshot}
 use Rattle.host.specs.Kept.{isKind, kindOf, sessionOf}
 use Rattle.host.specs.Arguments.{isSubmission, submissionOf, isAt, atOf, isSnapshot, snapshotOf}
 use Rattle.host.specs.Answers.{saysBy, turned}
-use Rattle.host.specs.Calls.{openHost, loadHost, retireHost, submitHost, transitionHost, replayHost, blockHost, startCaptureHost, stopCaptureHost, snapshotHost, applyHost, metricsHost}
+use Rattle.host.specs.Calls.{openHost, loadHost, retireHost, submitHost, transitionHost, replayHost, blockHost, pumpHost, startCaptureHost, stopCaptureHost, snapshotHost, applyHost, metricsHost}
 use Rattle.promises.specs.Calls as calls
-use Rattle.promises.specs.Calls.{State, Call, state, refusal, after, heard, Opening, opened, Given, Reached}
+use Rattle.promises.specs.Calls.{State, Feed, Call, state, pumping, feedOf, refusal, after, heard, Opening, opened, Given, Reached}
 
 -- a host's session with its stores as the call before left them
 pub record HostState : Type 0 where
@@ -59,12 +61,17 @@ pub data HostCall : Type 0 where
   submit : HostCommand → HostAt → HostCall
   transition : SongFrame → HostAt → HostCall
   block : List Float → HostCall
+  pump : Feed → ℕ → HostCall
   startCapture : HostCall
   stopCapture : List ℕ → HostCall
   replay : List ℕ → HostCall
   snapshot : HostCall
   apply : HostSnapshot → HostCall
   metrics : HostCall
+
+-- what an exported pump gives: answer, session and ring; store
+abbrev pub hostPumping : HostState → Feed → ℕ → HostPumped × List Float
+hostPumping x f n = pumpHost (x .session) (x .queue) (x .capture) (x .pool) (f .ring) (f .store) n
 
 -- the number that it answers, and the state that it leaves
 abbrev pub hostStep : HostCall → HostState → ℕ × HostState
@@ -82,6 +89,9 @@ hostStep (transition f at) x =
     (o .0 .refusal, hostState (o .0 .session) (o .1) (o .2) (x .pool))
 hostStep (block out) x =
     let o = blockHost (x .session) (x .queue) (x .capture) (x .pool) out in
+    (o .0 .refusal, keeping x (o .0 .session))
+hostStep (pump f n) x =
+    let o = hostPumping x f n in
     (o .0 .refusal, keeping x (o .0 .session))
 hostStep startCapture x =
     let o = startCaptureHost (x .session) (x .queue) (x .capture) in
@@ -114,6 +124,10 @@ hostAfter k x = hostStep k x .1
 abbrev pub hostOut : HostState → List Float → List Float
 hostOut x out = blockHost (x .session) (x .queue) (x .capture) (x .pool) out .1
 
+-- the ring and its store after a pump
+abbrev pub hostFeed : HostState → Feed → ℕ → Feed
+hostFeed x f n = record { ring = hostPumping x f n .0 .ring; store = hostPumping x f n .1 }
+
 -- what a stop leaves in its list
 abbrev pub hostList : HostState → List ℕ → List ℕ
 hostList x list = stopCaptureHost (x .session) (x .queue) (x .capture) list .1
@@ -125,6 +139,7 @@ hostHeard (retire h) x = []
 hostHeard (submit y at) x = []
 hostHeard (transition f at) x = []
 hostHeard (block out) x = hostOut x out
+hostHeard (pump f n) x = []
 hostHeard startCapture x = []
 hostHeard (stopCapture list) x = []
 hostHeard (replay list) x = []
@@ -145,6 +160,7 @@ named (retire h) = true
 named (submit y at) = isSubmission y && isAt at
 named (transition f at) = isAt at
 named (block out) = true
+named (pump f n) = true
 named startCapture = true
 named (stopCapture list) = true
 named (replay list) = true
@@ -159,6 +175,7 @@ callOf (retire h) = calls.retire h
 callOf (submit y at) = calls.submit (submissionOf y) (atOf at)
 callOf (transition f at) = calls.transition f (atOf at)
 callOf (block out) = calls.block out
+callOf (pump f n) = calls.pump f n
 callOf startCapture = calls.startCapture
 callOf (stopCapture list) = calls.stopCapture list
 callOf (replay list) = calls.replay list
@@ -171,7 +188,7 @@ pub data HostReached : HostState → Type 0 where
   atOpening : (o : Opening) → hostOpened o .0 ≡ 0 → HostReached (hostOpened o .1)
   afterCall : {x : HostState} (k : HostCall) → Given (callOf k) → HostReached x → HostReached (hostAfter k x)
 
--- what a host reads of it is what its call says: the refusal, or what the call gives, and a stop's list
+-- what a host reads of it is what its call says: the refusal, or what the call gives, a pump's ring and store, and a stop's list
 abbrev pub SameAnswer : HostCall → HostState → Type 0
 SameAnswer (load samples kind extent rate) x =
     let o = loadHost (x .session) (x .queue) (x .capture) (x .pool) samples kind extent rate in
@@ -187,6 +204,9 @@ SameAnswer (transition f at) x =
 SameAnswer (block out) x =
     let o = blockHost (x .session) (x .queue) (x .capture) (x .pool) out in
     saysBy (o .0 .refusal) (o .0 .passes) ≡ saysBlock (blockOf (sessionOf (x .session)) (x .queue) (x .capture) (x .pool) out .0 .answer)
+SameAnswer (pump f n) x =
+    let o = hostPumping x f n in
+    (saysBy (o .0 .refusal) (o .0 .frames, o .0 .passes) ≡ saysPump (pumping (stateOf x) f n .0 .answer)) × (hostFeed x f n ≡ feedOf (stateOf x) f n)
 SameAnswer startCapture x =
     saysBy (startCaptureHost (x .session) (x .queue) (x .capture) .refusal) tt ≡ says (startCaptureOf (sessionOf (x .session)) (x .queue) (x .capture) .answer)
 SameAnswer (stopCapture list) x =
@@ -233,8 +253,10 @@ pub record ForHosts : Type 0 where
 pub record HostRefused : Type 0 where
   -- the very session comes back, 15 alone counted, and every store is as it was,
   pub state : (k : HostCall) (x : HostState) → hostRefusal k x ≢ 0 → hostAfter k x ≡ keeping x (turned (hostRefusal k x) (x .session))
-  -- a block's output
+  -- a block's output,
   pub output : (x : HostState) (out : List Float) → hostRefusal (block out) x ≢ 0 → hostOut x out ≡ out
+  -- a pump's ring and every sample of its store
+  pub feed : (x : HostState) (f : Feed) (n : ℕ) → hostRefusal (pump f n) x ≢ 0 → hostFeed x f n ≡ f
   -- and a stop's list too;
   pub list : (x : HostState) (list : List ℕ) → hostRefusal (stopCapture list) x ≢ 0 → hostList x list ≡ list
   -- and so are those that are lent to an opening

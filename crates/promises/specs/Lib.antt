@@ -17,6 +17,7 @@ pub mod Own
 pub mod Room
 pub mod Later
 pub mod Cut
+pub mod Feed
 pub mod Opens
 pub mod Signs
 pub mod Hosts

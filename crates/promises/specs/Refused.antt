@@ -11,7 +11,7 @@ use Rattle.session.specs.declared.Desk.{Desk}
 use Rattle.session.specs.declared.Session.{Session}
 use Rattle.session.specs.Session.{deskOf, withDesk}
 use Rattle.control.specs.Capture.{stopCaptureOf}
-use Rattle.promises.specs.Calls.{State, Call, block, stopCapture, withSession, refusal, after, outOf, Opening, opened}
+use Rattle.promises.specs.Calls.{State, Feed, Call, block, pump, stopCapture, withSession, refusal, after, outOf, feedOf, Opening, opened}
 
 -- a refusal's number adds one to the dropped count exactly if it is 15, held at 2^64 - 1; nothing else changes
 abbrev pub countedBy : ℕ → Session → Session
@@ -29,6 +29,8 @@ pub record Refused : Type 0 where
   pub state : (k : Call) (x : State) → refusal k x ≢ 0 → after k x ≡ withSession x (countedBy (refusal k x) (x .session))
   -- a block's output is as it was given,
   pub output : (x : State) (out : List Float) → refusal (block out) x ≢ 0 → outOf x out ≡ out
+  -- a pump's ring and every sample of its store,
+  pub feed : (x : State) (f : Feed) (n : ℕ) → refusal (pump f n) x ≢ 0 → feedOf x f n ≡ f
   -- a stop's list,
   pub list : (x : State) (list : List ℕ) → refusal (stopCapture list) x ≢ 0 → listOf x list ≡ list
   -- and every store that is lent to an opening; what it gives in the place of a session every call refuses with 1
