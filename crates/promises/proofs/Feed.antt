@@ -98,7 +98,7 @@ drain-refused f out n = go (two-ways (ringOk (length (f .store)) (f .ring)))
 
 module _ (x : State) (f : Feed) (n : ℕ) where
   -- one that says 0 is accepted
-  pump-accepts : refusal (pump f n) x ≡ 0 → Accepted (x .session) (x .queue) (x .capture) (x .pool) (f .ring) (length (f .store)) n
+  pub pump-accepts : refusal (pump f n) x ≡ 0 → Accepted (x .session) (x .queue) (x .capture) (x .pool) (f .ring) (length (f .store)) n
   unfolding pumpOf
   pump-accepts e =
       weighing.accepted (x .session) (x .queue) (x .capture) (x .pool) (f .ring) (length (f .store)) n (zero-fine {A = Pumped × List Float} _ _ _ (λ z. code (saysPump (z .0 .answer))) (λ k. refl) e)
@@ -133,13 +133,13 @@ module _ (x : State) (f : Feed) (n : ℕ) where
 
 -- ---- turns
 
-abbrev Kept : Turn → Feed → Type 0
+abbrev pub Kept : Turn → Feed → Type 0
 Kept t f =
     Inside (fed t f)
     × (leftIn t f ++ waits (fed t f) ≡ waits f ++ madeIn t f)
     × (heldOf (length (f .store)) (f .ring) % 2 ≡ 0 → heldOf (length (fed t f .store)) (fed t f .ring) % 2 ≡ 0)
 
-turn-keeps : (t : Turn) (f : Feed) → Inside f → Kept t f
+pub turn-keeps : (t : Turn) (f : Feed) → Inside f → Kept t f
 turn-keeps (pumped x n) f inside = pump-keeps x f n inside
 turn-keeps (drained out) f inside = (drain-inside f out inside, drain-order f out inside ∙ sym (append-nil (waits f)), drain-whole f out inside)
 
@@ -151,10 +151,10 @@ in-order (t ∷ ts) f inside =
     let r = in-order ts g (k .0) in (
       r .0,
       append-assoc (leftIn t f) (allLeft ts g) (waits (fedBy ts g))
-      ∙ ap (λ (l : List Float). leftIn t f ++ l) (r .1)
-      ∙ sym (append-assoc (leftIn t f) (waits g) (allMade ts g))
-      ∙ ap (λ (l : List Float). l ++ allMade ts g) (k .1)
-      ∙ append-assoc (waits f) (madeIn t f) (allMade ts g),
+          ∙ ap (λ (l : List Float). leftIn t f ++ l) (r .1)
+          ∙ sym (append-assoc (leftIn t f) (waits g) (allMade ts g))
+          ∙ ap (λ (l : List Float). l ++ allMade ts g) (k .1)
+          ∙ append-assoc (waits f) (madeIn t f) (allMade ts g),
     )
 
 pub whole-frames : WholeFrames

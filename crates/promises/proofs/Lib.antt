@@ -15,6 +15,7 @@ pub mod Exchanged
 mod Fine
 pub mod Cut
 pub mod Feed
+pub mod Portions
 pub mod Later
 pub mod Refused
 pub mod Retire

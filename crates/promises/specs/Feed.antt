@@ -128,3 +128,51 @@ InOrder = (ts : List Turn) (f : Feed) → Inside f → Inside (fedBy ts f) × (a
 abbrev pub WholeFrames : Type 0
 WholeFrames = (ts : List Turn) (f : Feed) → Inside f → heldOf (length (f .store)) (f .ring) % 2 ≡ 0
     → heldOf (length (fedBy ts f .store)) (fedBy ts f .ring) % 2 ≡ 0
+
+-- ---- one session, pumped in portions with no other call on it between
+
+-- frames asked for, or a drain into the callback's block
+pub data Portion : Type 0 where
+  asked : ℕ → Portion
+  played : List Float → Portion
+
+-- the turns that portions are,
+abbrev pub turnsOf : List Portion → State → Feed → List Turn
+turnsOf [] x f = []
+turnsOf (asked n ∷ ps) x f = pumped x n ∷ turnsOf ps (after (pump f n) x) (feedOf x f n)
+turnsOf (played out ∷ ps) x f = drained out ∷ turnsOf ps x (drainedFeed f out)
+
+-- and what they leave of the session
+abbrev pub portioned : List Portion → State → Feed → State
+portioned [] x f = x
+portioned (asked n ∷ ps) x f = portioned ps (after (pump f n) x) (feedOf x f n)
+portioned (played out ∷ ps) x f = portioned ps x (drainedFeed f out)
+
+-- no pump is refused
+abbrev pub NoneRefused : List Turn → Feed → Type 0
+NoneRefused [] f = Unit {0}
+NoneRefused (pumped x n ∷ ts) f = (refusal (pump f n) x ≡ 0) × NoneRefused ts (feedOf x f n)
+NoneRefused (drained out ∷ ts) f = NoneRefused ts (drainedFeed f out)
+
+-- the frames made in all,
+abbrev pub allFrames : List Turn → Feed → ℕ
+allFrames [] f = 0
+allFrames (pumped x n ∷ ts) f = pumpedFrames (pumping x f n .0 .answer) + allFrames ts (feedOf x f n)
+allFrames (drained out ∷ ts) f = allFrames ts (drainedFeed f out)
+
+-- and their passes
+abbrev pub allPasses : List Turn → Feed → ℕ
+allPasses [] f = 0
+allPasses (pumped x n ∷ ts) f = pumpedPasses (pumping x f n .0 .answer) + allPasses ts (feedOf x f n)
+allPasses (drained out ∷ ts) f = allPasses ts (drainedFeed f out)
+
+-- they are one block of all their frames, whatever is drained between
+pub record AsOneBlock (ps : List Portion) (x : State) (f : Feed) (out : List Float) : Type 0 where
+  pub accepted : refusal (block out) x ≡ 0
+  pub samples : allMade (turnsOf ps x f) f ≡ outOf x out
+  pub passes : allPasses (turnsOf ps x f) f ≡ reportOf x out
+  pub state : portioned ps x f ≡ after (block out) x
+
+abbrev pub OneBlock : Type 0
+OneBlock = (ps : List Portion) (x : State) (f : Feed) (out : List Float) → Good x → Inside f → NoneRefused (turnsOf ps x f) f → length out ≡ allFrames (turnsOf ps x f) f * 2
+    → AsOneBlock ps x f out
