@@ -11,6 +11,9 @@ use control::SnapshotAnswered;
 use control::StopAnswered;
 use counts::Handle;
 use counts::SongFrame;
+use pump::Pumped;
+use ring::Drained;
+use ring::SampleRing;
 use session::Answered;
 use session::Session;
 use stage::Settings;
@@ -30,6 +33,10 @@ pub struct SubmitTwice(pub SubmitAnswered, pub SubmitAnswered);
 pub struct ReplayTwice(pub ReplayAnswered, pub ReplayAnswered);
 
 pub struct BlockTwice(pub BlockAnswered, pub BlockAnswered);
+
+pub struct PumpTwice(pub Pumped, pub Pumped);
+
+pub struct DrainTwice(pub Drained, pub Drained);
 
 pub struct StopTwice(pub StopAnswered, pub StopAnswered);
 
@@ -169,6 +176,44 @@ pub fn block(
     let one = block::block(s, queue, capture, pool, out);
     let other = block::block(s, queue2, capture2, pool2, out2);
     BlockTwice(one, other)
+}
+
+// ---- the ring
+
+pub fn pump(
+    s: Session,
+    queue: &[u64],
+    capture: &[u64],
+    pool: &[f32],
+    r: SampleRing,
+    store: &mut [f32],
+    frames: usize,
+    queue2: &[u64],
+    capture2: &[u64],
+    pool2: &[f32],
+    store2: &mut [f32],
+) -> PumpTwice
+    requires { ⌜ (now queue ≡ now queue2) × (now capture ≡ now capture2) × (now pool ≡ now pool2) × (now store ≡ now store2) ⌝ }
+    ensures { λ r. ⌜ (r .0 ≡ r .1) × (now (store .exit) ≡ now (store2 .exit)) ⌝ }
+{
+    let one = pump::pump(s, queue, capture, pool, r, store, frames);
+    let other = pump::pump(s, queue2, capture2, pool2, r, store2, frames);
+    PumpTwice(one, other)
+}
+
+pub fn drain(
+    r: SampleRing,
+    store: &[f32],
+    out: &mut [f32],
+    store2: &[f32],
+    out2: &mut [f32],
+) -> DrainTwice
+    requires { ⌜ (now store ≡ now store2) × (now out ≡ now out2) ⌝ }
+    ensures { λ r. ⌜ (r .0 ≡ r .1) × (now (out .exit) ≡ now (out2 .exit)) ⌝ }
+{
+    let one = ring::drain(r, store, out);
+    let other = ring::drain(r, store2, out2);
+    DrainTwice(one, other)
 }
 
 // ---- the calls around the performance
