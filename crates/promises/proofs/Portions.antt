@@ -1,8 +1,8 @@
 -- One session pumped in portions, whatever is drained between, is one block. Assumes nothing.
 use mathlib.Core.Path.{_≡_, refl, sym, ap, subst, _∙_}
-use mathlib.Core.Bool.{false}
 use mathlib.Core.List.{List, [], _∷_, _++_}
-use Prim.Native.Nat.{ℕ, _+_, _*_, _%_, _^_, _≤_}
+use mathlib.Core.Logic.{_≢_}
+use Prim.Native.Nat.{ℕ, zero, suc, _+_, _*_, _%_, _^_, _≤_}
 use native.Mathlib.Omega.{arith}
 use lib.ListN.{length, take, drop, take-append-drop, length-append, length-take, length-drop}
 use lib.Ieee.{Float}
@@ -22,13 +22,14 @@ use Rattle.block.specs.Block.{blockAnswered, ranOf, blockDone, blockOf, reporte
 use Rattle.block.proofs.Weigh.{Accepted, block-done}
 use Rattle.block.proofs.Cut.{block-cut}
 use Rattle.pump.specs.declared.Pumped.{Pumped}
-use Rattle.pump.specs.Pump.{framesMade, pumpedFrames, pumpedPasses}
+use Rattle.pump.specs.Pump.{saysPump, framesMade, pumpedFrames, pumpedPasses, pumpOf}
 use Rattle.pump.proofs.Weighing.{pump-done}
-use Rattle.promises.specs.Calls.{State, Feed, block, pump, refusal, after, withSession, outOf, reportOf, pumping, feedOf}
+use Rattle.promises.specs.Calls.{State, Feed, block, pump, code, refusal, after, withSession, outOf, reportOf, pumping, feedOf}
 use Rattle.promises.specs.Kept.{Good}
 use Rattle.promises.specs.Cut.{InPieces}
-use Rattle.promises.specs.Feed.{Inside, makes, drainedFeed, pumped, drained, fed, allMade, Portion, asked, played, turnsOf, portioned, NoneRefused, allFrames, allPasses, AsOneBlock, OneBlock}
+use Rattle.promises.specs.Feed.{Inside, makes, drainedFeed, pumped, drained, fed, allMade, Portion, asked, played, turnsOf, portioned, allFrames, allPasses, AsOneBlock, OneBlock}
 use Rattle.promises.proofs.Fine.{block-accepts, block-says}
+use Rattle.promises.proofs.Refused.{lent-back}
 use Rattle.promises.proofs.Kept.{keeps}
 use Rattle.promises.proofs.Cut.{cut}
 use Rattle.promises.proofs.Pumping.{as-block}
@@ -87,46 +88,84 @@ pump-sounds x f n o e b many =
     ∙ ap (λ (k : ℕ). blockDone (x .session) (ranOf (x .session) (x .queue) (x .pool) k) .1) (sym many)
     ∙ sym (ap (λ (z : BlockAnswered × List Float). z .1) (block-done (x .session) (x .queue) (x .capture) (x .pool) o (block-accepts x o b)))
 
-pub one-block : OneBlock
-one-block [] x f out g inside none long = subst (λ (l : List Float). AsOneBlock [] x f l) (sym (empty out long)) (nothing x g)
-  where
-    empty : (l : List Float) → length l ≡ 0 * 2 → l ≡ []
-    empty [] e = refl
-    empty (y ∷ l) e = absurd (omega arith)
+-- what a refused one leaves and makes
+pump-leaves : (x : State) (f : Feed) (n : ℕ) → refusal (pump f n) x ≢ 0
+    → _≡_ {A = State × Feed × ℕ × ℕ × List Float} (after (pump f n) x, feedOf x f n, pumpedFrames (pumping x f n .0 .answer), pumpedPasses (pumping x f n .0 .answer), makes x (pumping x f n .0 .answer)) (x, f, 0, 0, [])
+unfolding pumpOf
+pump-leaves x f n =
+    lent-back {A = Pumped × List Float} {B = State × Feed × ℕ × ℕ × List Float} _ _ _ (λ z. code (saysPump (z .0 .answer)))
+    (λ z. (withSession x (z .0 .session), record { ring = z .0 .ring; store = z .1 }, pumpedFrames (z .0 .answer), pumpedPasses (z .0 .answer), makes x (z .0 .answer))) (x, f, 0, 0, []) refl (λ k. refl)
 
-    nothing : (x : State) → Good x → AsOneBlock [] x f []
-    nothing x g =
-        let e : refusal (block []) x ≡ 0 = block-says x [] (none-accepted x g) in
-        let p : InPieces [] x = cut x [] g e tt in
-        record { accepted = e; samples = p .samples; passes = p .passes; state = p .state }
-one-block (played block' ∷ ps) x f out g inside none long =
-    let r = one-block ps x (drainedFeed f block') out g (turn-keeps (drained block') f inside .0) none long in
+-- no portions: no frames
+none-asked : (x : State) (f : Feed) (out : List Float) → Good x → length out ≡ 0 * 2 → AsOneBlock [] x f out
+none-asked x f [] g e =
+    let none : refusal (block []) x ≡ 0 = block-says x [] (none-accepted x g) in
+    let p : InPieces [] x = cut x [] g none tt in
+    record { accepted = none; samples = p .samples; passes = p .passes; state = p .state }
+none-asked x f (y ∷ out) g e = absurd (omega arith)
+
+-- a portion more
+module _ (ps : List Portion) (rest : (x : State) (f : Feed) (out : List Float) → Good x → Inside f → length out ≡ allFrames (turnsOf ps x f) f * 2 → AsOneBlock ps x f out)
+    (n : ℕ) (x : State) (f : Feed) (out : List Float) (g : Good x) (inside : Inside f) where
+  -- where its pump is refused,
+  abbrev Left : State × Feed × ℕ × ℕ × List Float → Type 0
+  Left z =
+      length out ≡ (z .2 + allFrames (turnsOf ps (z .0) (z .1)) (z .1)) * 2
+      → (refusal (block out) x ≡ 0)
+      × (z .4 ++ allMade (turnsOf ps (z .0) (z .1)) (z .1) ≡ outOf x out)
+      × (z .3 + allPasses (turnsOf ps (z .0) (z .1)) (z .1) ≡ reportOf x out)
+      × (portioned ps (z .0) (z .1) ≡ after (block out) x)
+
+  ask-refused : refusal (pump f n) x ≢ 0 → length out ≡ allFrames (turnsOf (asked n ∷ ps) x f) f * 2 → AsOneBlock (asked n ∷ ps) x f out
+  ask-refused e long =
+      let same : Left (x, f, 0, 0, []) = λ l. let r = rest x f out g inside (omega (arith, l)) in (r .accepted, r .samples, omega (arith, r .passes), r .state) in
+      let z = subst Left (sym (pump-leaves x f n e)) same long in
+      record { accepted = z .0; samples = z .1; passes = z .2; state = z .3 }
+
+  -- and where it is not
+  ask-made : refusal (pump f n) x ≡ 0 → length out ≡ allFrames (turnsOf (asked n ∷ ps) x f) f * 2 → AsOneBlock (asked n ∷ ps) x f out
+  ask-made e long =
+      let y : State = after (pump f n) x in
+      let h : Feed = feedOf x f n in
+      let k : ℕ = framesMade (length (f .store)) (f .ring) n in
+      let made : pumpedFrames (pumping x f n .0 .answer) ≡ k =
+      ap (λ (z : Pumped × List Float). pumpedFrames (z .0 .answer)) (pump-done (x .session) (x .queue) (x .capture) (x .pool) (f .ring) (f .store) n (pump-accepts x f n e)) in
+      let o : List Float = take (k * 2) out in
+      let u : List Float = drop (k * 2) out in
+      let lo : length o ≡ k * 2 = simp length-take (omega (arith, long, made)) in
+      let lu : length u ≡ allFrames (turnsOf ps y h) h * 2 = simp length-drop (omega (arith, long, made)) in
+      let c = as-block x f n o inside lo in
+      let r = rest y h u (keeps (pump f n) x tt g) (turn-keeps (pumped x n) f inside .0) lu in
+      let even : length o % 2 ≡ 0 = omega (arith, lo) in
+      let first : refusal (block o) x ≡ 0 = sym (c .number) ∙ e in
+      let second : refusal (block u) (after (block o) x) ≡ 0 = subst (λ (z : State). refusal (block u) z ≡ 0) (c .state) (r .accepted) in
+      subst (λ (l : List Float). AsOneBlock (asked n ∷ ps) x f l) (take-append-drop (k * 2) out)
+      (record {
+        accepted = block-says x (o ++ u) (both-accepted x o u g even first second);
+        samples =
+            ap (λ (l : List Float). l ++ allMade (turnsOf ps y h) h) (pump-sounds x f n o e first (omega (arith, lo)))
+            ∙ ap (λ (l : List Float). outOf x o ++ l) (r .samples ∙ ap (λ (z : State). outOf z u) (c .state))
+            ∙ both-samples x o u g even first second;
+        passes =
+            ap (λ (m : ℕ). m + allPasses (turnsOf ps y h) h) (c .passes)
+            ∙ ap (λ (m : ℕ). reportOf x o + m) (r .passes ∙ ap (λ (z : State). reportOf z u) (c .state))
+            ∙ both-passes x o u g even first second;
+        state = r .state ∙ ap (λ (z : State). after (block u) z) (c .state) ∙ both-state x o u g even first second;
+      })
+
+  one-more : length out ≡ allFrames (turnsOf (asked n ∷ ps) x f) f * 2 → AsOneBlock (asked n ∷ ps) x f out
+  one-more = go (refusal (pump f n) x) refl
+    where
+      some : (m k : ℕ) → m ≡ suc k → m ≢ 0
+      some m k e z = omega arith
+
+      go : (m : ℕ) → refusal (pump f n) x ≡ m → length out ≡ allFrames (turnsOf (asked n ∷ ps) x f) f * 2 → AsOneBlock (asked n ∷ ps) x f out
+      go zero e = ask-made e
+      go (suc m) e = ask-refused (some (refusal (pump f n) x) m e)
+
+pub one-block : OneBlock
+one-block [] x f out g inside long = none-asked x f out g long
+one-block (played o ∷ ps) x f out g inside long =
+    let r = one-block ps x (drainedFeed f o) out g (turn-keeps (drained o) f inside .0) long in
     record { accepted = r .accepted; samples = r .samples; passes = r .passes; state = r .state }
-one-block (asked n ∷ ps) x f out g inside none long =
-    let y : State = after (pump f n) x in
-    let h : Feed = feedOf x f n in
-    let k : ℕ = framesMade (length (f .store)) (f .ring) n in
-    let made : pumpedFrames (pumping x f n .0 .answer) ≡ k =
-    ap (λ (z : Pumped × List Float). pumpedFrames (z .0 .answer)) (pump-done (x .session) (x .queue) (x .capture) (x .pool) (f .ring) (f .store) n (pump-accepts x f n (none .0))) in
-    let o : List Float = take (k * 2) out in
-    let u : List Float = drop (k * 2) out in
-    let lo : length o ≡ k * 2 = simp length-take (omega (arith, long, made)) in
-    let lu : length u ≡ allFrames (turnsOf ps y h) h * 2 = simp length-drop (omega (arith, long, made)) in
-    let c = as-block x f n o inside lo in
-    let r = one-block ps y h u (keeps (pump f n) x tt g) (turn-keeps (pumped x n) f inside .0) (none .1) lu in
-    let even : length o % 2 ≡ 0 = omega (arith, lo) in
-    let first : refusal (block o) x ≡ 0 = sym (c .number) ∙ none .0 in
-    let second : refusal (block u) (after (block o) x) ≡ 0 = subst (λ (z : State). refusal (block u) z ≡ 0) (c .state) (r .accepted) in
-    subst (λ (l : List Float). AsOneBlock (asked n ∷ ps) x f l) (take-append-drop (k * 2) out)
-    (record {
-      accepted = block-says x (o ++ u) (both-accepted x o u g even first second);
-      samples =
-          ap (λ (l : List Float). l ++ allMade (turnsOf ps y h) h) (pump-sounds x f n o (none .0) first (omega (arith, lo)))
-          ∙ ap (λ (l : List Float). outOf x o ++ l) (r .samples ∙ ap (λ (z : State). outOf z u) (c .state))
-          ∙ both-samples x o u g even first second;
-      passes =
-          ap (λ (m : ℕ). m + allPasses (turnsOf ps y h) h) (c .passes)
-          ∙ ap (λ (m : ℕ). reportOf x o + m) (r .passes ∙ ap (λ (z : State). reportOf z u) (c .state))
-          ∙ both-passes x o u g even first second;
-      state = r .state ∙ ap (λ (z : State). after (block u) z) (c .state) ∙ both-state x o u g even first second;
-    })
+one-block (asked n ∷ ps) x f out g inside long = one-more ps (one-block ps) n x f out g inside long

@@ -148,12 +148,6 @@ portioned [] x f = x
 portioned (asked n ∷ ps) x f = portioned ps (after (pump f n) x) (feedOf x f n)
 portioned (played out ∷ ps) x f = portioned ps x (drainedFeed f out)
 
--- no pump is refused
-abbrev pub NoneRefused : List Turn → Feed → Type 0
-NoneRefused [] f = Unit {0}
-NoneRefused (pumped x n ∷ ts) f = (refusal (pump f n) x ≡ 0) × NoneRefused ts (feedOf x f n)
-NoneRefused (drained out ∷ ts) f = NoneRefused ts (drainedFeed f out)
-
 -- the frames made in all,
 abbrev pub allFrames : List Turn → Feed → ℕ
 allFrames [] f = 0
@@ -166,7 +160,7 @@ allPasses [] f = 0
 allPasses (pumped x n ∷ ts) f = pumpedPasses (pumping x f n .0 .answer) + allPasses ts (feedOf x f n)
 allPasses (drained out ∷ ts) f = allPasses ts (drainedFeed f out)
 
--- they are one block of all their frames, whatever is drained between
+-- they are one block of all their frames, whatever is drained between; a refused pump makes none and changes nothing
 pub record AsOneBlock (ps : List Portion) (x : State) (f : Feed) (out : List Float) : Type 0 where
   pub accepted : refusal (block out) x ≡ 0
   pub samples : allMade (turnsOf ps x f) f ≡ outOf x out
@@ -174,5 +168,5 @@ pub record AsOneBlock (ps : List Portion) (x : State) (f : Feed) (out : List Flo
   pub state : portioned ps x f ≡ after (block out) x
 
 abbrev pub OneBlock : Type 0
-OneBlock = (ps : List Portion) (x : State) (f : Feed) (out : List Float) → Good x → Inside f → NoneRefused (turnsOf ps x f) f → length out ≡ allFrames (turnsOf ps x f) f * 2
+OneBlock = (ps : List Portion) (x : State) (f : Feed) (out : List Float) → Good x → Inside f → length out ≡ allFrames (turnsOf ps x f) f * 2
     → AsOneBlock ps x f out
