@@ -163,6 +163,15 @@ pub struct Metrics {
     pub fired: u64,
 }
 
+/// Where a ring stands in its store: the place of the sample that is read next, and of the one that is written next. One
+/// place always stays empty, so that a ring of two equal places holds nothing.
+#[repr(C)]
+#[derive(Clone, Copy, Debug, PartialEq, Eq)]
+pub struct Ring {
+    pub head: usize,
+    pub tail: usize,
+}
+
 /// In every answer `refusal` is 0, or the refusal's number.
 #[repr(C)]
 #[derive(Clone, Copy, Debug, PartialEq)]
@@ -194,6 +203,26 @@ pub struct Blocked {
     pub refusal: u32,
     pub passes: u64,
     pub session: Session,
+}
+
+/// The frames made, their passes, and the ring past them.
+#[repr(C)]
+#[derive(Clone, Copy, Debug, PartialEq)]
+pub struct Pumped {
+    pub refusal: u32,
+    pub frames: usize,
+    pub passes: u64,
+    pub ring: Ring,
+    pub session: Session,
+}
+
+/// The frames taken, and the ring past them.
+#[repr(C)]
+#[derive(Clone, Copy, Debug, PartialEq, Eq)]
+pub struct Drained {
+    pub refusal: u32,
+    pub frames: usize,
+    pub ring: Ring,
 }
 
 #[repr(C)]
@@ -308,6 +337,28 @@ unsafe extern "C" {
         out: *mut f32,
         out_len: usize,
     ) -> Blocked;
+
+    fn threshreed_pump(
+        session: Session,
+        queue: *const u64,
+        queue_len: usize,
+        capture: *const u64,
+        capture_len: usize,
+        pool: *const f32,
+        pool_len: usize,
+        ring: Ring,
+        store: *mut f32,
+        store_len: usize,
+        frames: usize,
+    ) -> Pumped;
+
+    fn threshreed_drain(
+        ring: Ring,
+        store: *const f32,
+        store_len: usize,
+        out: *mut f32,
+        out_len: usize,
+    ) -> Drained;
 
     fn threshreed_start_capture(
         session: Session,
@@ -502,6 +553,46 @@ pub fn block(
             capture.len(),
             pool.as_ptr(),
             pool.len(),
+            out.as_mut_ptr(),
+            out.len(),
+        )
+    }
+}
+
+/// Makes frames into a ring's store: those asked for, held to half the free samples.
+pub fn pump(
+    session: Session,
+    queue: &[u64],
+    capture: &[u64],
+    pool: &[f32],
+    ring: Ring,
+    store: &mut [f32],
+    frames: usize,
+) -> Pumped {
+    unsafe {
+        threshreed_pump(
+            session,
+            queue.as_ptr(),
+            queue.len(),
+            capture.as_ptr(),
+            capture.len(),
+            pool.as_ptr(),
+            pool.len(),
+            ring,
+            store.as_mut_ptr(),
+            store.len(),
+            frames,
+        )
+    }
+}
+
+/// Fills the callback's block from a ring's store: whole frames while there are any, and silence.
+pub fn drain(ring: Ring, store: &[f32], out: &mut [f32]) -> Drained {
+    unsafe {
+        threshreed_drain(
+            ring,
+            store.as_ptr(),
+            store.len(),
             out.as_mut_ptr(),
             out.len(),
         )

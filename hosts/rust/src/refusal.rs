@@ -40,13 +40,15 @@ pub enum Refusal {
     Unreadable,
     /// A loop's start is not below its end, in a submission or, seen only as a skip, in a replayed record.
     SenselessLoop,
+    /// A head or a tail can be outside only where a host keeps them by hand.
+    BadRing,
     /// Never given here, where an argument can only name a case: it is for hosts that pass numbers.
     NoSuchCase = raw::NO_SUCH_CASE,
 }
 
 impl Refusal {
     /// All of them, in the order of their numbers.
-    pub const ALL: [Refusal; 23] = [
+    pub const ALL: [Refusal; 24] = [
         Refusal::NotWellFormed,
         Refusal::PoolLength,
         Refusal::OddSamples,
@@ -69,6 +71,7 @@ impl Refusal {
         Refusal::ListTooShort,
         Refusal::Unreadable,
         Refusal::SenselessLoop,
+        Refusal::BadRing,
         Refusal::NoSuchCase,
     ];
 
@@ -114,6 +117,9 @@ impl Refusal {
             Refusal::ListTooShort => "list for captured records too short",
             Refusal::Unreadable => "replayed record unreadable (seen only as a skip)",
             Refusal::SenselessLoop => "senseless loop: its start is not below its end",
+            Refusal::BadRing => {
+                "ring's store not of 3 to 65,536 samples, or its head or tail outside"
+            }
             Refusal::NoSuchCase => "argument names no case",
         }
     }

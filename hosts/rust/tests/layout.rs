@@ -54,10 +54,13 @@ fn the_header_asserts_the_layout_of_the_raw_types() {
         Snapshot { position, state, gain, looped }
         Report { taken, full, skipped }
         Metrics { rendered, executed, dropped, deepest, swaps, fired }
+        Ring { head, tail }
         Answered { refusal, session }
         Loaded { refusal, handle, session }
         Submitted { refusal, number, session }
         Blocked { refusal, passes, session }
+        Pumped { refusal, frames, passes, ring, session }
+        Drained { refusal, frames, ring }
         Replayed { refusal, report, session }
         Stopped { refusal, copied, session }
         Snapped { refusal, snapshot, session }
