@@ -27,7 +27,7 @@
 //!
 //! A block answers how often a loop came round in it, and [`Session::laps`] how often since the loop was set. A session
 //! plays as tono does, or in house mode, where a swap's tail is under the master gain and the song sounds where the
-//! playhead is ([`Mode`]).
+//! playhead is ([`Mode`]). A driver that pulls is fed from a [`Ring`], into which frames are made ahead of time.
 //!
 //! `examples/tour.rs` plays two minutes to a WAV file, `examples/told.rs` prints what each command did, and
 //! `examples/streaming.rs` walks through eight rooms with a pool for two.
@@ -37,9 +37,11 @@
 mod command;
 pub mod raw;
 mod refusal;
+mod ring;
 mod session;
 
 pub use command::{At, ClockFrame, Command, Handle, LoopRange, Mode, Snapshot, SongFrame, State};
 pub use raw::{Metrics, Report};
 pub use refusal::Refusal;
+pub use ring::{Callback, Pump, Pumped, Ring};
 pub use session::{Session, Song, Stinger, Stores, WORDS};

@@ -40,7 +40,7 @@ pub enum Refusal {
     Unreadable,
     /// A loop's start is not below its end, in a submission or, seen only as a skip, in a replayed record.
     SenselessLoop,
-    /// A head or a tail can be outside only where a host keeps them by hand.
+    /// A [`Ring`](crate::Ring) of another size. Head and tail can be outside only where a host keeps them by hand.
     BadRing,
     /// Never given here, where an argument can only name a case: it is for hosts that pass numbers.
     NoSuchCase = raw::NO_SUCH_CASE,

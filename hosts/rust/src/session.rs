@@ -293,6 +293,26 @@ impl<'a> Session<'a> {
         Ok(blocked.passes)
     }
 
+    /// Makes frames into a ring's store; see [`Ring::pump`](crate::Ring::pump).
+    pub(crate) fn pump(
+        &mut self,
+        ring: raw::Ring,
+        store: &mut [f32],
+        frames: usize,
+    ) -> raw::Pumped {
+        let pumped = raw::pump(
+            self.raw,
+            self.queue,
+            self.capture,
+            self.pool,
+            ring,
+            store,
+            frames,
+        );
+        self.raw = pumped.session;
+        pumped
+    }
+
     /// Starts capture, empty, also while it runs.
     pub fn start_capture(&mut self) -> Result<(), Refusal> {
         let answered = raw::start_capture(self.raw, self.queue, self.capture);
