@@ -1,28 +1,17 @@
 //! Any arguments: long runs of calls made by dice, by a host that keeps its session and by one that changes it by hand.
 
 mod common;
+#[path = "common/dice.rs"]
+mod dice;
 
 use common::{ByHand, PAIR, RATE};
+use dice::Dice;
 use threshreed::{
-    At, ClockFrame, Command, Handle, LoopRange, Mode, Refusal, Session, Snapshot, Song, SongFrame,
-    State, Stinger, Stores, WORDS, raw,
+    At, ClockFrame, Command, Handle, LoopRange, Mode, Refusal, Ring, Session, Snapshot, Song,
+    SongFrame, State, Stinger, Stores, WORDS, raw,
 };
 
-/// The same throws every time.
-struct Dice(u64);
-
 impl Dice {
-    fn word(&mut self) -> u64 {
-        self.0 ^= self.0 << 13;
-        self.0 ^= self.0 >> 7;
-        self.0 ^= self.0 << 17;
-        self.0
-    }
-
-    fn below(&mut self, n: u64) -> u64 {
-        self.word() % n
-    }
-
     /// Mostly small, now and then anything.
     fn count(&mut self) -> u64 {
         match self.below(8) {
@@ -85,10 +74,18 @@ impl Dice {
     }
 }
 
-/// One call of a session, with any arguments.
-fn step(session: &mut Session, dice: &mut Dice, handles: &mut Vec<Handle>) -> Result<(), Refusal> {
+/// The frames that fit the ring of a session.
+const RING: usize = 8;
+
+/// One call of a session or of its ring, with any arguments.
+fn step(
+    session: &mut Session,
+    ring: &mut Ring<{ 2 * RING + 1 }>,
+    dice: &mut Dice,
+    handles: &mut Vec<Handle>,
+) -> Result<(), Refusal> {
     let at = dice.at(session.clock());
-    match dice.below(12) {
+    match dice.below(14) {
         0 => {
             let samples = dice.samples();
             let song = Song {
@@ -126,6 +123,25 @@ fn step(session: &mut Session, dice: &mut Dice, handles: &mut Vec<Handle>) -> Re
             session.apply_snapshot(snapshot)
         }
         8 => session.submit(dice.command(handles), at).map(drop),
+        9 => {
+            let (clock, held, asked) = (session.clock().0, ring.held(), dice.count() as usize);
+            let pumped = ring.pump(session, asked)?;
+            assert_eq!(pumped.frames, asked.min(RING - held));
+            assert_eq!(ring.held(), held + pumped.frames);
+            assert!(pumped.passes <= 2 * pumped.frames as u64);
+            assert_eq!(session.clock().0, clock + pumped.frames as u64);
+            Ok(())
+        }
+        10 => {
+            let mut out = vec![f32::NAN; dice.below(3 * RING as u64) as usize];
+            let held = ring.held();
+            let taken = ring.drain(&mut out)?;
+            assert_eq!(taken, held.min(out.len() / 2));
+            assert_eq!(ring.held(), held - taken);
+            assert!(out.iter().all(|x| x.is_finite()));
+            assert!(out[2 * taken..].iter().all(|x| x.to_bits() == 0));
+            Ok(())
+        }
         _ => {
             let mut out = vec![f32::NAN; dice.below(80) as usize];
             let clock = session.clock().0;
@@ -150,8 +166,9 @@ fn calls_with_any_arguments() {
         let song = Song::new(&[0.5; 8], RATE);
         let mut session = stores.open_in(mode, RATE, song).unwrap();
         let mut handles = vec![session.song()];
-        for _ in 0..400 {
-            let number = match step(&mut session, &mut dice, &mut handles) {
+        let mut ring = Ring::new();
+        for _ in 0..470 {
+            let number = match step(&mut session, &mut ring, &mut dice, &mut handles) {
                 Ok(()) => 0,
                 Err(refusal) => refusal.number(),
             };
@@ -216,6 +233,49 @@ fn sessions_changed_by_hand() {
         refused += usize::from(answered.refusal == 1);
         assert_eq!(out[..16], [9.0; 16]);
         assert_eq!(out[32..], [9.0; 16]);
+
+        // The block of 8 frames that a ring of 17 samples takes.
+        let mut store = [9.0; 3 * 17];
+        let ring = raw::Ring { head: 0, tail: 0 };
+        let (s, q, c, p) = (opened.session, &opened.queue, &opened.capture, &opened.pool);
+        let pumped = raw::pump(s, q, c, p, ring, &mut store[17..34], 8);
+        assert_eq!(pumped.refusal, answered.refusal);
+        assert_eq!(store[..17], [9.0; 17]);
+        assert_eq!(store[34..], [9.0; 17]);
+    }
+    assert!((1..20_000).contains(&refused));
+}
+
+/// A ring of any places over a store of any few samples is refused or plays; the library touches nothing that it is not
+/// lent.
+#[test]
+fn rings_changed_by_hand() {
+    let mut dice = Dice(0x5851_F42D_4C95_7F2D);
+    let opened = ByHand::open();
+    let (s, q, c, p) = (opened.session, &opened.queue, &opened.capture, &opened.pool);
+    let mut refused = 0;
+    for _ in 0..20_000 {
+        let ring = raw::Ring {
+            head: dice.count() as usize,
+            tail: dice.count() as usize,
+        };
+        let [samples, length] = [64, 64].map(|n| dice.below(n) as usize);
+        let frames = dice.count() as usize;
+        let good = samples >= 3 && ring.head.max(ring.tail) < samples;
+        let number = if good { 0 } else { Refusal::BadRing.number() };
+        refused += usize::from(!good);
+
+        let (mut store, mut out) = ([9.0; 3 * 64], [9.0; 3 * 64]);
+        let lent = &mut store[64..64 + samples];
+        let pumped = raw::pump(s, q, c, p, ring, lent, frames);
+        assert_eq!(pumped.refusal, number);
+        assert_eq!(store[..64], [9.0; 64]);
+        assert!(store[64 + samples..].iter().all(|x| *x == 9.0));
+
+        let drained = raw::drain(ring, &store[64..64 + samples], &mut out[64..64 + length]);
+        assert_eq!(drained.refusal, number);
+        assert_eq!(out[..64], [9.0; 64]);
+        assert!(out[64 + length..].iter().all(|x| *x == 9.0));
     }
     assert!((1..20_000).contains(&refused));
 }

@@ -5,8 +5,8 @@ mod common;
 use common::{ByHand, PAIR, RATE};
 use threshreed::Refusal::*;
 use threshreed::{
-    At, Command, LoopRange, Metrics, Refusal, Report, Session, Snapshot, Song, SongFrame, State,
-    Stinger, Stores, WORDS, raw,
+    At, Command, LoopRange, Metrics, Refusal, Report, Ring, Session, Snapshot, Song, SongFrame,
+    State, Stinger, Stores, WORDS, raw,
 };
 
 fn song() -> Song<'static> {
@@ -134,6 +134,16 @@ fn blocks() {
     assert_eq!(out, [9.0; 3]);
     assert_eq!(session.block(&mut []), Ok(0));
     assert_eq!(session.queue_depth(), 1);
+}
+
+/// The order of these refusals, and that they change nothing: `tests/ring.rs`.
+#[test]
+fn rings() {
+    let mut stores = Small::new();
+    let mut session = open(&mut stores);
+    let mut ring = Ring::<2>::new();
+    assert_eq!(ring.pump(&mut session, 1), Err(BadRing));
+    assert_eq!(ring.drain(&mut [9.0; 2]), Err(BadRing));
 }
 
 #[test]
@@ -274,7 +284,7 @@ impl ByHand {
     }
 
     /// Each call but the opening, of this session; the clip is one to retire.
-    fn every_call(&mut self, clip: raw::Handle) -> [(u32, raw::Session); 11] {
+    fn every_call(&mut self, clip: raw::Handle) -> [(u32, raw::Session); 12] {
         let (s, q, c, p) = (
             self.session,
             &mut self.queue,
@@ -297,6 +307,7 @@ impl ByHand {
             raw::transition(s, q, c, 0, now),
             raw::replay(s, q, c, &[]),
             raw::block(s, q, c, p, &mut [9.0; 2]),
+            raw::pump(s, q, c, p, raw::Ring { head: 0, tail: 0 }, &mut [9.0; 3], 1),
             raw::start_capture(s, q, c),
             raw::stop_capture(s, q, c, &mut []),
             snapped,
@@ -386,7 +397,7 @@ fn a_session_that_is_not_well_formed() {
         let mut opened = ByHand::with(change);
         assert_eq!(opened.frame(), NotWellFormed.number());
         let (session, queue, pool) = (opened.session, opened.queue, opened.pool);
-        let refused = [(NotWellFormed.number(), session); 11];
+        let refused = [(NotWellFormed.number(), session); 12];
         assert_eq!(opened.every_call(session.song), refused);
         assert_eq!((opened.queue, opened.pool), (queue, pool));
     }
@@ -423,7 +434,7 @@ fn unused_slots_that_hold_anything() {
             };
         }
         let answers = opened.every_call(loaded.handle);
-        assert_eq!(answers.map(|x| x.0), [0; 11], "kind {kind}");
+        assert_eq!(answers.map(|x| x.0), [0; 12], "kind {kind}");
     }
 }
 

@@ -4,12 +4,14 @@ use std::sync::Mutex;
 use std::thread;
 
 use threshreed::{
-    At, ClockFrame, Command, LoopRange, Mode, Refusal, Song, SongFrame, Stinger, Stores, WORDS,
+    At, ClockFrame, Command, LoopRange, Mode, Refusal, Ring, Song, SongFrame, Stinger, Stores,
+    WORDS,
 };
 
 const RATE: u32 = 48_000;
 
 static STORES: Mutex<Stores<64, 64, 1_024>> = Mutex::new(Stores::new());
+static RING: Mutex<Ring<127>> = Mutex::new(Ring::new());
 static CLIP: [f32; 512] = [0.25; 512];
 
 /// A session with a command of every kind, as many voices as there can be, a tail and a capture.
@@ -50,6 +52,11 @@ fn every_call(mode: Mode) -> Result<(), Refusal> {
     let mut out = [0.0; 64];
     for _ in 0..4 {
         session.block(&mut out)?;
+    }
+    let mut ring = RING.lock().unwrap();
+    for _ in 0..4 {
+        ring.pump(&mut session, 48)?;
+        ring.drain(&mut out)?;
     }
     let mut list = [0; 32 * WORDS];
     let copied = session.stop_capture(&mut list)?;
