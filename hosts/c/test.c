@@ -29,7 +29,8 @@ static void expect_none(Threshreed *t)
 {
     const ThreshreedHandle clip = {0, 1};
     const ThreshreedSnapshot start = {0, THRESHREED_STOPPED, 1.0f, {0, 0, 0}};
-    float out[2];
+    ThreshreedRing ring = {0, 0};
+    float out[2], store[3];
     EXPECT(tr_load_song(t, pair, LEN(pair), 48000, 2, NULL) == THRESHREED_NOT_WELL_FORMED);
     EXPECT(tr_load_stinger(t, pair, LEN(pair), 48000, NULL) == THRESHREED_NOT_WELL_FORMED);
     EXPECT(tr_retire(t, clip) == THRESHREED_NOT_WELL_FORMED);
@@ -37,6 +38,7 @@ static void expect_none(Threshreed *t)
     EXPECT(tr_transition(t, 0, tr_now()) == THRESHREED_NOT_WELL_FORMED);
     EXPECT(tr_replay(t, NULL, 0, NULL) == THRESHREED_NOT_WELL_FORMED);
     EXPECT(tr_block(t, out, LEN(out), NULL) == THRESHREED_NOT_WELL_FORMED);
+    EXPECT(tr_pump(t, &ring, store, LEN(store), 1, NULL, NULL) == THRESHREED_NOT_WELL_FORMED);
     EXPECT(tr_start_capture(t) == THRESHREED_NOT_WELL_FORMED);
     EXPECT(tr_stop_capture(t, NULL, 0, NULL) == THRESHREED_NOT_WELL_FORMED);
     EXPECT(tr_snapshot(t, NULL) == THRESHREED_NOT_WELL_FORMED);
@@ -351,6 +353,139 @@ static void between_blocks(void)
     }
 }
 
+static bool stands(ThreshreedRing ring, size_t head, size_t tail)
+{
+    return ring.head == head && ring.tail == tail;
+}
+
+/* Each sample has these bits. */
+static bool filled(const float *samples, size_t count, float with)
+{
+    for (size_t i = 0; i < count; i += 1) {
+        if (memcmp(&samples[i], &with, sizeof with) != 0) {
+            return false;
+        }
+    }
+    return true;
+}
+
+/* Portions through a ring of three frames, some of which lie over its end, are heard as one block. */
+static void portions(uint32_t mode)
+{
+    static Host host, other;
+    float store[7], out[5], whole[2 * 20], heard[2 * 20];
+    ThreshreedRing ring = {0, 0};
+    size_t made, taken, pumped = 0, drained = 0;
+    uint64_t passes, all = 0;
+    go_round(&host, mode);
+    go_round(&other, mode);
+    EXPECT(tr_block(&other.t, whole, LEN(whole), &passes) == 0 && passes == 20);
+    while (drained < 20) {
+        EXPECT(tr_pump(&host.t, &ring, store, LEN(store), 20 - pumped, &made, &passes) == 0 && made == passes);
+        pumped += made;
+        all += passes;
+        EXPECT(tr_drain(&ring, store, LEN(store), out, LEN(out), &taken) == 0 && 0 < taken && taken <= 2);
+        EXPECT(filled(out + 2 * taken, LEN(out) - 2 * taken, 0.0f));
+        memcpy(heard + 2 * drained, out, 2 * taken * sizeof *out);
+        drained += taken;
+    }
+    EXPECT(pumped == 20 && all == 20 && memcmp(heard, whole, sizeof whole) == 0 && unchanged(&host, &other));
+}
+
+/* A pump that is refused: the host, the ring, the store and the results are as they were. */
+static uint32_t refused_pump(Host *h, ThreshreedRing ring, float *store, size_t samples)
+{
+    static Host before;
+    const ThreshreedRing was = ring;
+    size_t made = 99;
+    uint64_t passes = 99;
+    memcpy(&before, h, sizeof before);
+    for (size_t i = 0; i < samples; i += 1) {
+        store[i] = 9.0f;
+    }
+    uint32_t refusal = tr_pump(&h->t, &ring, store, samples, 1, &made, &passes);
+    EXPECT(refusal != 0 && made == 99 && passes == 99 && stands(ring, was.head, was.tail));
+    EXPECT(filled(store, samples, 9.0f) && unchanged(&before, h));
+    return refusal;
+}
+
+/* A drain that is refused, likewise. */
+static uint32_t refused_drain(ThreshreedRing ring, const float *store, size_t samples)
+{
+    const ThreshreedRing was = ring;
+    float out[] = {9.0f, 9.0f};
+    size_t taken = 99;
+    uint32_t refusal = tr_drain(&ring, store, samples, out, LEN(out), &taken);
+    EXPECT(refusal != 0 && taken == 99 && stands(ring, was.head, was.tail) && filled(out, LEN(out), 9.0f));
+    return refusal;
+}
+
+/* What a ring refuses: after 1, before 2 and 4, which are as for a block of the frames made. */
+static void refused_rings(void)
+{
+    static const struct {
+        size_t samples;
+        ThreshreedRing ring;
+    } bad[] = {{2, {0, 0}}, {65537, {0, 0}}, {3, {3, 0}}, {3, {0, 3}}, {65536, {65536, 0}}, {65536, {0, SIZE_MAX}}};
+    static const ThreshreedRing empty = {1, 1}, full = {2, 1};
+    static float store[65537];
+    static Host host, spoiled, small, spent;
+    play(&host);
+    play(&spoiled);
+    play(&small);
+    play(&spent);
+    spoiled.t.session.state = 3;
+    small.t.pool_len -= 2;
+    spent.t.session.clock = UINT64_C(1) << 62;
+    for (size_t i = 0; i < LEN(bad); i += 1) {
+        EXPECT(refused_pump(&host, bad[i].ring, store, bad[i].samples) == THRESHREED_BAD_RING);
+        EXPECT(refused_pump(&spoiled, bad[i].ring, store, bad[i].samples) == THRESHREED_NOT_WELL_FORMED);
+        EXPECT(refused_pump(&small, bad[i].ring, store, bad[i].samples) == THRESHREED_BAD_RING);
+        EXPECT(refused_pump(&spent, bad[i].ring, store, bad[i].samples) == THRESHREED_BAD_RING);
+        EXPECT(refused_drain(bad[i].ring, store, bad[i].samples) == THRESHREED_BAD_RING);
+    }
+    EXPECT(refused_pump(&host, empty, NULL, 0) == THRESHREED_BAD_RING);
+    EXPECT(refused_drain(empty, NULL, 3) == THRESHREED_BAD_RING);
+    EXPECT(refused_pump(&small, empty, store, 3) == THRESHREED_POOL_LENGTH);
+    EXPECT(refused_pump(&small, full, store, 3) == THRESHREED_POOL_LENGTH);
+    EXPECT(refused_pump(&spent, empty, store, 3) == THRESHREED_CLOCK_SPENT);
+    EXPECT(refused_pump(&spoiled, empty, store, 3) == THRESHREED_NOT_WELL_FORMED);
+}
+
+/* What a ring makes and takes. */
+static void rings(void)
+{
+    static float store[65536];
+    static Host host;
+    const float three[] = {0.1f, 0.2f, 0.3f, 0.4f, 0.5f};
+    ThreshreedRing ring = {0, 0};
+    float out[5];
+    size_t made, taken;
+    portions(THRESHREED_AS_TONO);
+    portions(THRESHREED_HOUSE);
+    refused_rings();
+
+    /* The least store and the largest; a full ring makes no frame, and is not refused at the clock's end. */
+    play(&host);
+    EXPECT(tr_pump(&host.t, &ring, store, 3, SIZE_MAX, &made, NULL) == 0 && made == 1 && stands(ring, 0, 2));
+    host.t.session.clock = UINT64_C(1) << 62;
+    EXPECT(tr_pump(&host.t, &ring, store, 3, SIZE_MAX, &made, NULL) == 0 && made == 0 && stands(ring, 0, 2));
+    host.t.session.clock -= 40000;
+    ring.head = ring.tail = 65535;
+    EXPECT(tr_pump(&host.t, &ring, store, LEN(store), 40000, &made, NULL) == 0 && made == 32767);
+    EXPECT(stands(ring, 65535, 65533));
+
+    /* An underrun is silence and takes nothing. Three samples can wait by hand alone: one stays behind. */
+    ring.head = ring.tail;
+    EXPECT(tr_drain(&ring, store, LEN(store), out, LEN(out), &taken) == 0 && taken == 0 && filled(out, LEN(out), 0.0f));
+    ring = (ThreshreedRing){3, 1};
+    EXPECT(tr_drain(&ring, three, LEN(three), out, LEN(out), &taken) == 0 && taken == 1 && stands(ring, 0, 1));
+    EXPECT(out[0] == 0.4f && out[1] == 0.5f && filled(out + 2, 3, 0.0f));
+    EXPECT(tr_drain(&ring, three, LEN(three), out, LEN(out), NULL) == 0 && stands(ring, 0, 1));
+    EXPECT(filled(out, LEN(out), 0.0f));
+    EXPECT(tr_drain(&ring, three, LEN(three), NULL, 8, &taken) == 0 && taken == 0 && stands(ring, 0, 1));
+}
+
 /* NULL for a result that is not wanted. */
 static void unwanted_results(void)
 {
@@ -383,6 +518,7 @@ int main(void)
     past_its_loop();
     undo();
     between_blocks();
+    rings();
     unwanted_results();
 
     /* Nothing is lent. */
