@@ -6,6 +6,8 @@ use std::panic::{AssertUnwindSafe, catch_unwind};
 use threshreed::raw::Snapshot;
 
 use crate::ours::Ours;
+use crate::runtime::ring::{Pump, Renderer, spsc};
+use crate::runtime::{AudioSource, held};
 use crate::script::{Answer, Call, Material, Standing, mode};
 use crate::theirs::Theirs;
 
@@ -16,7 +18,7 @@ pub struct Difference {
     pub seed: u64,
     /// The call's place in the session, from 0.
     pub place: usize,
-    pub call: Call,
+    pub call: String,
     pub ours: String,
     pub theirs: String,
 }
@@ -25,7 +27,7 @@ impl fmt::Display for Difference {
     fn fmt(&self, f: &mut fmt::Formatter<'_>) -> fmt::Result {
         writeln!(
             f,
-            "session {}, call {}: {:?}",
+            "session {}, call {}: {}",
             self.seed, self.place, self.call
         )?;
         writeln!(f, "  ours     {}", self.ours)?;
@@ -33,10 +35,14 @@ impl fmt::Display for Difference {
     }
 }
 
-/// A session on both sides.
+/// What ours tells and what the Rust does, where the two differ.
+type Apart = (String, String);
+
+/// A session on both sides, each with a ring.
 pub struct Both {
     pub ours: Ours,
-    theirs: Theirs,
+    theirs: Pump<Theirs>,
+    callback: Renderer,
     seed: u64,
     played: usize,
     /// A line of the fixed list for each call, with the Rust's answers, if they are wanted.
@@ -45,27 +51,87 @@ pub struct Both {
 
 impl Both {
     pub fn open(seed: u64, rate: u32, song: Material, lines: bool) -> Result<Both, Difference> {
-        let (ours, our_answer) = Ours::open(mode::AS_TONO, rate, song);
+        Both::open_over(1, seed, rate, song, lines)
+    }
+
+    /// Opens likewise, over rings for so many frames.
+    pub fn open_over(
+        frames: usize,
+        seed: u64,
+        rate: u32,
+        song: Material,
+        lines: bool,
+    ) -> Result<Both, Difference> {
+        let (mut ours, our_answer) = Ours::open(mode::AS_TONO, rate, song);
+        ours.lend_ring(2 * frames + 1);
         let (theirs, their_answer) = Theirs::open(rate, song);
+        let (theirs, callback) = spsc(theirs, frames);
         let mut both = Both {
             ours,
             theirs,
+            callback,
             seed,
             played: 0,
             lines: lines.then(String::new),
         };
-        both.compare(&Call::Open(song), our_answer, their_answer)?;
+        let opening = Call::Open(song);
+        let compared = both.compare(&opening, our_answer, their_answer);
+        both.after(compared, || format!("{opening:?}"))?;
         Ok(both)
     }
 
     /// Plays a call on both sides and gives the answer that they share.
     pub fn play(&mut self, call: &Call) -> Result<Answer, Difference> {
         let ours = self.ours.play(call);
-        let theirs = catch_unwind(AssertUnwindSafe(|| self.theirs.play(call)));
-        let Ok(theirs) = theirs else {
-            return Err(self.difference(call, format!("{ours:?}"), "panics".to_string()));
+        let compared = match catch_unwind(AssertUnwindSafe(|| self.theirs.play(call))) {
+            Ok(theirs) => self.compare(call, ours, theirs),
+            Err(_) => Err(panics(&ours)),
         };
-        self.compare(call, ours, theirs)
+        self.after(compared, || format!("{call:?}"))
+    }
+
+    /// Pumps frames on both sides. What is given is as of a block of those that both made.
+    pub fn pump(&mut self, frames: usize) -> Result<Answer, Difference> {
+        let compared = self.pumped(frames);
+        self.after(compared, || format!("a pump of {frames} frames"))
+    }
+
+    fn pumped(&mut self, frames: usize) -> Result<Answer, Apart> {
+        let ours = self.ours.pump(frames);
+        let before = self.theirs.passes();
+        let made = catch_unwind(AssertUnwindSafe(|| self.theirs.pump(frames)));
+        let made = made.map_err(|_| panics(&ours))?;
+        same("frames made", ours.frames(), made)?;
+        same("passes", ours.passes(), self.theirs.passes() - before)?;
+        self.same_waiting()?;
+        Ok(ours)
+    }
+
+    /// Drains into a block of so many samples on both sides. Gives its bits, and how many frames were taken.
+    pub fn drain(&mut self, samples: usize) -> Result<(Vec<u32>, usize), Difference> {
+        let compared = self.drained(samples);
+        self.after(compared, || format!("a drain of {samples} samples"))
+    }
+
+    fn drained(&mut self, samples: usize) -> Result<(Vec<u32>, usize), Apart> {
+        let (ours, taken) = self.ours.drain(samples);
+        let waiting = held(&self.callback) / 2;
+        let mut out = vec![f32::NAN; samples];
+        self.callback.fill(&mut out);
+        let theirs: Vec<u32> = out.into_iter().map(f32::to_bits).collect();
+        if ours != theirs {
+            return Err(first_apart(&ours, &theirs, sample));
+        }
+        // tono answers half the block's length, whatever waited.
+        same("frames taken", taken, waiting.min(samples / 2))?;
+        self.same_waiting()?;
+        Ok((ours, taken))
+    }
+
+    /// As many samples wait on both sides, and the sessions stand alike.
+    fn same_waiting(&self) -> Result<(), Apart> {
+        same("samples waiting", self.ours.held(), held(&self.callback))?;
+        self.same_standing().map(drop)
     }
 
     /// Lays a snapshot in the place of the one taken last.
@@ -74,20 +140,21 @@ impl Both {
         self.theirs.lay(snapshot);
     }
 
-    fn compare(&mut self, call: &Call, ours: Answer, theirs: Answer) -> Result<Answer, Difference> {
+    fn compare(&mut self, call: &Call, ours: Answer, theirs: Answer) -> Result<Answer, Apart> {
         if ours != theirs {
-            let (ours, theirs) = apart(ours, theirs);
-            return Err(self.difference(call, ours, theirs));
+            return Err(apart(ours, theirs));
         }
-        let standing = self.theirs.standing();
-        let our_standing = self.ours.standing();
-        if our_standing != standing {
-            let (ours, theirs) = (format!("{our_standing:?}"), format!("{standing:?}"));
-            return Err(self.difference(call, ours, theirs));
-        }
+        let standing = self.same_standing()?;
         self.write(call, &theirs, &standing);
-        self.played += 1;
         Ok(ours)
+    }
+
+    fn same_standing(&self) -> Result<Standing, Apart> {
+        let (ours, theirs) = (self.ours.standing(), self.theirs.standing());
+        match ours == theirs {
+            true => Ok(theirs),
+            false => Err((format!("{ours:?}"), format!("{theirs:?}"))),
+        }
     }
 
     fn write(&mut self, call: &Call, answer: &Answer, standing: &Standing) {
@@ -101,30 +168,43 @@ impl Both {
         self.lines.unwrap_or_default()
     }
 
-    fn difference(&self, call: &Call, ours: String, theirs: String) -> Difference {
-        Difference {
+    /// Counts a call after which both sides are the same, or tells where they part.
+    fn after<T>(
+        &mut self,
+        compared: Result<T, Apart>,
+        call: impl Fn() -> String,
+    ) -> Result<T, Difference> {
+        let shared = compared.map_err(|(ours, theirs)| Difference {
             seed: self.seed,
             place: self.played,
-            call: call.clone(),
+            call: call(),
             ours,
             theirs,
-        }
+        })?;
+        self.played += 1;
+        Ok(shared)
+    }
+}
+
+fn panics(ours: &Answer) -> Apart {
+    (format!("{ours:?}"), "panics".to_string())
+}
+
+/// A count of both sides.
+fn same<T: PartialEq + fmt::Display>(what: &str, ours: T, theirs: T) -> Result<(), Apart> {
+    match ours == theirs {
+        true => Ok(()),
+        false => Err((format!("{ours} {what}"), format!("{theirs} {what}"))),
     }
 }
 
 /// Two answers that differ; of samples and records the first that does, of blocks with the same samples the passes.
-fn apart(ours: Answer, theirs: Answer) -> (String, String) {
+fn apart(ours: Answer, theirs: Answer) -> Apart {
     match (&ours, &theirs) {
         (Answer::Made(a, ours), Answer::Made(b, theirs)) if a == b => {
             (format!("{ours} passes"), format!("{theirs} passes"))
         }
-        (Answer::Made(a, _), Answer::Made(b, _)) => first_apart(a, b, |place, bits| {
-            let sample = f32::from_bits(*bits);
-            format!(
-                "frame {} of the block: {sample:?} ({bits:#010x})",
-                place / 2
-            )
-        }),
+        (Answer::Made(a, _), Answer::Made(b, _)) => first_apart(a, b, sample),
         (Answer::Records(a), Answer::Records(b)) => first_apart(a, b, |place, record| {
             format!("record {place} of the capture: {record:?}")
         }),
@@ -132,11 +212,20 @@ fn apart(ours: Answer, theirs: Answer) -> (String, String) {
     }
 }
 
+/// A sample of a block, by its place and its bits.
+fn sample(place: usize, bits: &u32) -> String {
+    let sample = f32::from_bits(*bits);
+    format!(
+        "frame {} of the block: {sample:?} ({bits:#010x})",
+        place / 2
+    )
+}
+
 fn first_apart<T: PartialEq>(
     ours: &[T],
     theirs: &[T],
     tell: impl Fn(usize, &T) -> String,
-) -> (String, String) {
+) -> Apart {
     let differ = ours.iter().zip(theirs).position(|(a, b)| a != b);
     match differ {
         Some(place) => (tell(place, &ours[place]), tell(place, &theirs[place])),

@@ -8,7 +8,7 @@ use crate::clip;
 use crate::dice::Dice;
 use crate::script::{Answer, CAPTURE, Call, Material, POOL, QUEUE, Standing, snapshot_numbers};
 
-/// What the pool holds where no clip lies: heard at once, if it is ever read.
+/// What the pool holds where no clip lies, and a ring's store where no frame does: heard at once, if it is ever read.
 const UNLOADED: f32 = 7.0;
 
 /// A session and its stores. Between calls all of it may be read.
@@ -17,11 +17,17 @@ pub struct Ours {
     pub queue: Vec<u64>,
     pub capture: Vec<u64>,
     pub pool: Vec<f32>,
+    pub ring: raw::Ring,
+    /// The ring's.
+    pub store: Vec<f32>,
     /// The records that the last stop of capture gave.
     pub list: Vec<u64>,
     /// The snapshot taken last, or one laid in its place.
     pub snapshot: Option<raw::Snapshot>,
 }
+
+/// A ring in which nothing waits.
+const EMPTY: raw::Ring = raw::Ring { head: 0, tail: 0 };
 
 /// A record as it lies in a store: frame, number, kind, and two words that the kind reads.
 pub type Row = [u64; 5];
@@ -56,6 +62,8 @@ impl Ours {
             queue,
             capture,
             pool,
+            ring: EMPTY,
+            store: vec![UNLOADED; 3],
             list: Vec::new(),
             snapshot: None,
         };
@@ -145,6 +153,52 @@ impl Ours {
         );
         self.session = made.session;
         answer(made.refusal, Answer::made(&out, made.passes))
+    }
+
+    /// An empty ring over a store of so many samples.
+    pub fn lend_ring(&mut self, samples: usize) {
+        self.ring = EMPTY;
+        self.store = vec![UNLOADED; samples];
+    }
+
+    /// Pumps frames into the ring, and answers as a block of those that it makes.
+    pub fn pump(&mut self, frames: usize) -> Answer {
+        let first = self.ring.tail;
+        let pumped = raw::pump(
+            self.session,
+            &self.queue,
+            &self.capture,
+            &self.pool,
+            self.ring,
+            &mut self.store,
+            frames,
+        );
+        assert_eq!(pumped.refusal, 0, "a pump is refused");
+        self.session = pumped.session;
+        self.ring = pumped.ring;
+        let places = (0..2 * pumped.frames).map(|n| (first + n) % self.store.len());
+        let made: Vec<f32> = places.map(|place| self.store[place]).collect();
+        Answer::made(&made, pumped.passes)
+    }
+
+    /// Drains the ring into a block of so many samples. Gives the block's bits, and how many frames were taken.
+    pub fn drain(&mut self, samples: usize) -> (Vec<u32>, usize) {
+        let mut out = vec![f32::NAN; samples];
+        let drained = raw::drain(self.ring, &self.store, &mut out);
+        assert_eq!(drained.refusal, 0, "a drain is refused");
+        self.ring = drained.ring;
+        (out.into_iter().map(f32::to_bits).collect(), drained.frames)
+    }
+
+    /// How many samples wait in the ring.
+    pub fn held(&self) -> usize {
+        let samples = self.store.len();
+        (self.ring.tail + samples - self.ring.head) % samples
+    }
+
+    /// How many frames the ring takes now.
+    pub fn room(&self) -> usize {
+        (self.store.len() - 1 - self.held()) / 2
     }
 
     /// Makes a block again from where it began, in pieces of any length: the samples and the session are the same,

@@ -137,6 +137,14 @@ impl Answer {
         Answer::Made(out.iter().map(|sample| sample.to_bits()).collect(), passes)
     }
 
+    /// The frames of a block; none of another call.
+    pub fn frames(&self) -> usize {
+        match self {
+            Answer::Made(bits, _) => bits.len() / 2,
+            _ => 0,
+        }
+    }
+
     /// The passes of a block; none of another call.
     pub fn passes(&self) -> u64 {
         match self {

@@ -4,7 +4,7 @@
 use threshreed::raw::{At, Command, Handle, Loop, Report, Snapshot};
 
 use crate::ours::handle_word;
-use crate::runtime::performance;
+use crate::runtime::{AudioSource, performance};
 use crate::script::{
     Answer, Call, Material, NO_LOOP, SONG, Standing, at, kind, snapshot_numbers, state,
 };
@@ -68,9 +68,9 @@ impl Theirs {
             }
             Call::Transition(frame, at) => queued(self.session.transition(*frame, when(*at))),
             Call::Block(frames) => {
-                let before = self.session.passes();
+                let before = self.passes();
                 let out = self.session.block(*frames);
-                Answer::made(&out, self.session.passes() - before)
+                Answer::made(&out, self.passes() - before)
             }
             Call::StartCapture => {
                 self.session.start_capture();
@@ -123,6 +123,11 @@ impl Theirs {
         })
     }
 
+    /// A count that rises by 1 with each pass.
+    pub fn passes(&self) -> u64 {
+        self.session.passes()
+    }
+
     pub fn standing(&self) -> Standing {
         let metrics = self.session.metrics();
         Standing {
@@ -139,6 +144,14 @@ impl Theirs {
             swaps: metrics.swaps,
             fired: metrics.stingers_fired,
         }
+    }
+}
+
+/// What a ring takes its frames from.
+impl AudioSource for Theirs {
+    fn fill(&mut self, out: &mut [f32]) -> usize {
+        self.session.fill(out);
+        out.len() / 2
     }
 }
 

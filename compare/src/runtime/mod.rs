@@ -12,3 +12,8 @@ pub use transport::TransportState;
 
 /// The frames for which tono's scratch buffers have room from the start.
 pub const SCRATCH_FRAMES: usize = 8192;
+
+/// How many samples wait in tono's ring, which it tells to its runtime alone.
+pub fn held(renderer: &ring::Renderer) -> usize {
+    renderer.ring.len()
+}
