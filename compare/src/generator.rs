@@ -10,13 +10,14 @@ use crate::both::{Both, Difference};
 use crate::dice::Dice;
 use crate::domain::Walk;
 use crate::house::House;
-use crate::ours::{Row, handle_word};
+use crate::ours::{Ours, Row, handle_word};
 use crate::reached::{Moment, Reached};
 use crate::runtime::SCRATCH_FRAMES;
 use crate::script::{
     Answer, CAPTURE, Call, Material, NOW, POOL, QUEUE, RATE, SONG, STINGER, at_frame, at_song,
     kind, plain, state,
 };
+use crate::turns::Turns;
 use crate::undo;
 
 /// How long a session is.
@@ -25,6 +26,14 @@ pub enum Size {
     /// For the fixed list.
     Short,
     Long,
+}
+
+/// How a session makes its frames.
+#[derive(Clone, Copy, PartialEq)]
+pub enum Way {
+    Blocks,
+    /// Into a ring for so many frames.
+    Pumps(usize),
 }
 
 /// What a session is mostly about.
@@ -48,26 +57,7 @@ pub struct Played {
 
 /// Plays the session of this seed on both sides, and on ours in house mode too.
 pub fn play(seed: u64, size: Size, lines: bool) -> Result<Played, Difference> {
-    let mut dice = Dice::new(seed);
-    let song = song(&mut dice, size, 1);
-    let rate = match size {
-        Size::Short => RATE,
-        Size::Long => dice.pick(&[RATE, RATE, RATE, 8_000, 44_100, 44_250, 192_000]),
-    };
-    let mut player = Player {
-        both: Both::open(seed, rate, song, lines)?,
-        house: House::open(rate, song),
-        mood: mood(&mut dice, size),
-        dice,
-        cuts: Dice::new(!seed),
-        beside: Dice::new(seed + (1 << 32)),
-        size,
-        loads: 1,
-        retired: Vec::new(),
-        last_frame: 0,
-        passes: 0,
-        reached: Reached::default(),
-    };
+    let mut player = Player::open(seed, size, Way::Blocks, lines)?;
     player.run()?;
     Ok(Played {
         reached: player.reached,
@@ -75,7 +65,8 @@ pub fn play(seed: u64, size: Size, lines: bool) -> Result<Played, Difference> {
     })
 }
 
-struct Player {
+/// A session that is played on both sides.
+pub struct Player {
     both: Both,
     house: House,
     dice: Dice,
@@ -85,6 +76,7 @@ struct Player {
     beside: Dice,
     mood: Mood,
     size: Size,
+    way: Way,
     /// The clips loaded so far. Each clip has a seed of its own.
     loads: u32,
     /// The starts of the clips retired so far.
@@ -94,6 +86,7 @@ struct Player {
     /// The passes of all blocks so far.
     passes: u64,
     reached: Reached,
+    turns: Turns,
 }
 
 /// What a session may do next.
@@ -116,21 +109,43 @@ enum Step {
 }
 
 impl Player {
-    /// A few clips, then steps until there were enough calls or frames.
+    /// Opens the session of this seed.
+    pub fn open(seed: u64, size: Size, way: Way, lines: bool) -> Result<Player, Difference> {
+        let mut dice = Dice::new(seed);
+        let song = song(&mut dice, size, 1);
+        let rate = match size {
+            Size::Short => RATE,
+            Size::Long => dice.pick(&[RATE, RATE, RATE, 8_000, 44_100, 44_250, 192_000]),
+        };
+        let both = match way {
+            Way::Blocks => Both::open(seed, rate, song, lines)?,
+            Way::Pumps(frames) => Both::open_over(frames, seed, rate, song, lines)?,
+        };
+        Ok(Player {
+            both,
+            house: House::open(rate, song),
+            mood: mood(&mut dice, size),
+            dice,
+            cuts: Dice::new(!seed),
+            beside: Dice::new(seed + (1 << 32)),
+            size,
+            way,
+            loads: 1,
+            retired: Vec::new(),
+            last_frame: 0,
+            passes: 0,
+            reached: Reached::default(),
+            turns: Turns::default(),
+        })
+    }
+
+    /// Steps until there were enough calls or frames.
     fn run(&mut self) -> Result<(), Difference> {
         let (calls, frames) = match self.size {
             Size::Short => (self.dice.from(10, 40), 3_000),
             Size::Long => (self.dice.from(20, 200), 12_000),
         };
-        for _ in 0..self.dice.from(1, 4) {
-            self.load()?;
-        }
-        if self.mood == Mood::FullQueue {
-            self.fill_queue()?;
-        }
-        if !self.dice.one_in(4) {
-            self.submit(plain(kind::PLAY), NOW)?;
-        }
+        self.begin()?;
         for _ in 0..calls {
             if self.both.ours.session.clock > frames {
                 break;
@@ -142,8 +157,22 @@ impl Player {
         Ok(())
     }
 
+    /// A few clips, and mostly a song that plays.
+    pub fn begin(&mut self) -> Result<(), Difference> {
+        for _ in 0..self.dice.from(1, 4) {
+            self.load()?;
+        }
+        if self.mood == Mood::FullQueue {
+            self.fill_queue()?;
+        }
+        if !self.dice.one_in(4) {
+            self.submit(plain(kind::PLAY), NOW)?;
+        }
+        Ok(())
+    }
+
     /// One step. False if the session cannot go on inside the domain.
-    fn step(&mut self) -> Result<bool, Difference> {
+    pub fn step(&mut self) -> Result<bool, Difference> {
         let burst = if self.mood == Mood::Bursts { 6 } else { 1 };
         let chorus = match self.mood {
             Mood::Close => 8,
@@ -206,29 +235,65 @@ impl Player {
         Ok(true)
     }
 
-    /// Plays a call on both sides and in house mode, and looks at what it reached.
+    /// Plays a call on both sides.
     fn call(&mut self, call: Call) -> Result<(), Difference> {
         let before = Moment::of(&self.both.ours);
         let answer = self.both.play(&call)?;
+        self.look(&call, &answer, &before);
+        Ok(())
+    }
+
+    /// Pumps frames on both sides. All else is as for a block of those that were made.
+    fn pump(&mut self, frames: usize) -> Result<(), Difference> {
+        let (before, ring) = (Moment::of(&self.both.ours), self.both.ours.ring);
+        let answer = self.both.pump(frames)?;
+        self.look(&Call::Block(answer.frames()), &answer, &before);
+        self.turns
+            .see_pump(frames, &answer, &before.session, ring, &self.both.ours);
+        Ok(())
+    }
+
+    /// Drains into a block of so many samples on both sides.
+    pub fn drain(&mut self, samples: usize) -> Result<(), Difference> {
+        let ring = self.both.ours.ring;
+        let (bits, taken) = self.both.drain(samples)?;
+        self.turns.see_drain(&bits, taken, ring, &self.both.ours);
+        Ok(())
+    }
+
+    /// What the pumps and drains reached.
+    pub fn turns(&self) -> &Turns {
+        &self.turns
+    }
+
+    /// Our side.
+    pub fn ours(&self) -> &Ours {
+        &self.both.ours
+    }
+
+    /// Plays in house mode what both sides played, and looks at what it reached.
+    fn look(&mut self, call: &Call, answer: &Answer, before: &Moment) {
         let ours = &mut self.both.ours;
         let pieces = match call {
-            Call::Block(frames) => ours.cut(before.session, frames, &answer, &mut self.cuts),
+            Call::Block(frames) => ours.cut(before.session, *frames, answer, &mut self.cuts),
             _ => Vec::new(),
         };
-        let otherwise = self.house.play(&call, ours, &answer, &mut self.cuts);
+        let otherwise = self.house.play(call, ours, answer, &mut self.cuts);
         if matches!(call, Call::Block(_)) {
             self.reached.see_otherwise(&otherwise);
         }
         self.passes += answer.passes();
-        self.check_laps(&call, before.session.laps);
-        self.check_undo();
-        if matches!(call, Call::Block(_)) && self.beside.one_in(4) {
-            self.check_between(before.session, &answer);
+        self.check_laps(call, before.session.laps);
+        // The laws of a session are looked at where it makes blocks, and not again where they go through a ring.
+        if self.way == Way::Blocks {
+            self.check_undo();
+            if matches!(call, Call::Block(_)) && self.beside.one_in(4) {
+                self.check_between(before.session, answer);
+            }
         }
         let after = Moment::of(&self.both.ours);
         self.reached
-            .see(&call, &answer, &before, &after, &pieces, &self.retired);
-        Ok(())
+            .see(call, answer, before, &after, &pieces, &self.retired);
     }
 
     /// The laps are 0 without a loop, and never more than the passes of all blocks. What a block makes of them the
@@ -279,19 +344,28 @@ impl Player {
         self.reached.see_between(&met);
     }
 
-    /// A block, as long as the domain allows. Where it allows none, the song is stopped first, and where
+    /// A block or a pump, as long as the domain allows. Where it allows none, the song is stopped first, and where
     /// it then still allows none, the session ends.
-    fn block(&mut self, frames: usize) -> Result<bool, Difference> {
-        let mut walk = Walk::ahead(&self.both.ours, frames);
-        if frames > 0 && walk.frames == 0 {
+    pub fn block(&mut self, frames: usize) -> Result<bool, Difference> {
+        let wanted = match self.way {
+            Way::Blocks => frames,
+            Way::Pumps(_) => frames.min(self.both.ours.room()),
+        };
+        let mut walk = Walk::ahead(&self.both.ours, wanted);
+        if wanted > 0 && walk.frames == 0 {
             self.submit(plain(kind::STOP), NOW)?;
-            walk = Walk::ahead(&self.both.ours, frames);
+            walk = Walk::ahead(&self.both.ours, wanted);
             if walk.frames == 0 {
                 return Ok(false);
             }
         }
         let before = self.passes;
-        self.call(Call::Block(walk.frames))?;
+        match self.way {
+            Way::Blocks => self.call(Call::Block(walk.frames))?,
+            // Where the ring holds it to what the domain allows, all may be asked for.
+            Way::Pumps(_) if walk.frames == wanted => self.pump(frames)?,
+            Way::Pumps(_) => self.pump(walk.frames)?,
+        }
         walk.check(&self.both.ours.session, self.passes - before);
         Ok(true)
     }

@@ -6,13 +6,16 @@
 //! [`script`] says what a call and an answer are. [`generator`] makes random sessions inside [`domain`], and
 //! each block of ours in pieces too; [`house`] plays them in house mode, which the Rust does not have. [`undo`]
 //! looks at the laws of snapshots in both modes after each call, [`between`] at those of a load and a
-//! retirement beside a block. [`reached`] counts what they reach, and [`list`] writes the fixed list of the
-//! Rust's answers. [`faults`] are planted into a copy of the Rust to show that the comparison sees them.
+//! retirement beside a block. [`turns`] makes their frames into a ring instead, which a callback drains.
+//! [`reached`] counts what they reach, and [`list`] writes the fixed list of the Rust's answers. [`faults`] are
+//! planted into a copy of the Rust to show that the comparison sees them.
 //!
 //! - `cargo test`: document 01's numbers on the Rust, the differences on both, the declick at every rate, the
 //!   passes of a loop and snapshots one after the other on both, spoiled sessions through the static library,
-//!   2,000 random sessions on both and in house mode, the fixed list, and the planted faults.
+//!   2,000 random sessions on both and in house mode, 100,000 random turns of pumps and drains on both, the
+//!   fixed list, and the planted faults.
 //! - `cargo run --release --bin sessions -- 20000 [first seed]`: as many sessions as are wanted.
+//! - `cargo run --release --bin turns -- 100000 [first seed]`: as many turns as are wanted.
 //! - `cargo run --release --bin answers`: writes the fixed list.
 //! - `cargo run --release --bin speed`: how fast both are; `compare/instructions` counts instructions instead.
 
@@ -37,6 +40,7 @@ pub mod session;
 pub mod sessions;
 pub mod streaming;
 pub mod theirs;
+pub mod turns;
 pub mod undo;
 pub mod units;
 

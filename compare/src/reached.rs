@@ -372,20 +372,20 @@ impl Reached {
 }
 
 /// One more for each that was seen.
-fn count(counts: &mut [u64], seen: &[bool]) {
+pub fn count(counts: &mut [u64], seen: &[bool]) {
     for (count, seen) in counts.iter_mut().zip(seen) {
         *count += u64::from(*seen);
     }
 }
 
-fn add(counts: &mut [u64], more: &[u64]) {
+pub fn add(counts: &mut [u64], more: &[u64]) {
     for (count, more) in counts.iter_mut().zip(more) {
         *count += more;
     }
 }
 
 /// The names whose count is 0.
-fn never(names: &[&'static str], counts: &[u64]) -> Vec<&'static str> {
+pub fn never(names: &[&'static str], counts: &[u64]) -> Vec<&'static str> {
     let counted = names.iter().zip(counts);
     let never = counted.filter(|(_, count)| **count == 0);
     never.map(|(name, _)| *name).collect()
