@@ -12,7 +12,7 @@
 enum { RATE = 48000, FRAMES = 2048, PAINT = 0xA5 };
 
 static uint64_t queue[64 * THRESHREED_WORDS], capture[64 * THRESHREED_WORDS], list[64 * THRESHREED_WORDS];
-static float pool[2 * 4 * FRAMES], clip[2 * FRAMES], out[2 * 512];
+static float pool[2 * 4 * FRAMES], clip[2 * FRAMES], out[2 * 512], store[2 * 512 + 1];
 static const uint32_t kinds[] = {THRESHREED_CLIP_SONG, THRESHREED_CLIP_STINGER, THRESHREED_CLIP_STINGER};
 static ThreshreedHandle clips[LEN(kinds)];
 static struct {
@@ -22,7 +22,9 @@ static struct {
 static ThreshreedSnapshot snapshot;
 static ThreshreedMetrics metrics;
 static ThreshreedReport report;
-static size_t copied;
+/* Of the frames that it takes one lies over the store's end. */
+static ThreshreedRing ring = {500, 500};
+static size_t copied, made, taken;
 static uint64_t passes;
 static Threshreed t;
 
@@ -39,6 +41,8 @@ CALL(submit, tr_submit(&t, script[nth].command, script[nth].at))
 CALL(transition, tr_transition(&t, nth, tr_at_song(600)))
 CALL(replay, tr_replay(&t, list, copied * THRESHREED_WORDS, &report))
 CALL(block, tr_block(&t, out, LEN(out), &passes))
+CALL(pump, tr_pump(&t, &ring, store, LEN(store), 512, &made, &passes))
+CALL(drain, tr_drain(&ring, store, LEN(store), out, LEN(out), &taken))
 CALL(start_capture, tr_start_capture(&t))
 CALL(stop_capture, tr_stop_capture(&t, list, LEN(list), &copied))
 CALL(take_snapshot, tr_snapshot(&t, &snapshot))
@@ -122,6 +126,8 @@ int main(void)
     measure("metrics", read_metrics, 1);
     measure("stop_capture", stop_capture, 1);
     measure("replay", replay, 1);
+    measure("pump", pump, 1);
+    measure("drain", drain, 1);
     measure("apply_snapshot", apply_snapshot, 1);
     printf("\n");
     return 0;
