@@ -288,6 +288,20 @@ pub const FAULTS: &[Fault] = &[
             "false",
         )],
     },
+    // The ring.
+    Fault {
+        name: "odd-last-sample-takes-half-a-frame",
+        edits: &[edit(
+            "ring",
+            "impl AudioSource for Renderer",
+            "frame.fill(0.0)",
+            "frame.fill_with(|| self.ring.pop().unwrap_or(0.0))",
+        )],
+    },
+    Fault {
+        name: "pump-held-to-the-free-samples",
+        edits: &[edit("ring", "fn pump", "free() / 2", "free()")],
+    },
 ];
 
 /// The source of one of tono's files with the edits of a fault that concern it; none if none does.

@@ -1,5 +1,5 @@
 //! The comparison can see: each fault that is planted into a copy of tono's files is found by the sessions
-//! that the gate plays. A fault is built into a target folder of its own.
+//! that the gate plays, one of the ring by its turns. A fault is built into a target folder of its own.
 
 use std::env;
 use std::path::Path;
@@ -8,7 +8,7 @@ use std::thread;
 use std::time::{Duration, Instant};
 
 use compare::faults::{FAULTS, Fault};
-use compare::sessions::GATE;
+use compare::{sessions, turns};
 
 /// How many faults are built and played at a time.
 const AT_A_TIME: usize = 2;
@@ -44,22 +44,31 @@ fn every_fault_is_found() {
     assert!(found.iter().all(Option::is_some), "a fault is not found");
 }
 
+/// The program that finds a fault, and how much of it the gate plays.
+fn program(fault: &Fault) -> (&'static str, u64) {
+    match fault.edits[0].file {
+        "ring" => ("turns", turns::GATE),
+        _ => ("sessions", sessions::GATE),
+    }
+}
+
 /// How many sessions it takes to find a fault; none if the gate's do not.
 fn sessions_needed(fault: &Fault) -> Option<u64> {
     let built = cargo("build", fault).output().expect("cargo can be run");
     let errors = String::from_utf8_lossy(&built.stderr);
     assert!(built.status.success(), "{errors}");
 
-    let told = told(cargo("run", fault).args(["--", &GATE.to_string()]));
+    let (_, gate) = program(fault);
+    let told = told(cargo("run", fault).args(["--", &gate.to_string()]));
     let seed = told.strip_prefix("session ")?.split(',').next()?;
     Some(seed.parse::<u64>().expect("a seed is a number") + 1)
 }
 
-/// A command of cargo's over the sessions with a fault planted. Cargo gives way to the program that it runs.
+/// A command of cargo's over a program with a fault planted. Cargo gives way to the program that it runs.
 fn cargo(command: &str, fault: &Fault) -> Command {
     let mut cargo = Command::new(env::var("CARGO").expect("cargo runs the tests"));
     cargo
-        .args([command, "--profile", "fault", "--bin", "sessions"])
+        .args([command, "--profile", "fault", "--bin", program(fault).0])
         .args([
             "--manifest-path",
             concat!(env!("CARGO_MANIFEST_DIR"), "/Cargo.toml"),
