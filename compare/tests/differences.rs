@@ -7,12 +7,17 @@ use std::panic::{AssertUnwindSafe, catch_unwind};
 
 use common::{RATE, heard, left, now, numbered, started, steady, submit};
 use compare::ours::Ours;
+use compare::runtime::AudioSource;
 use compare::runtime::ramp::Tween;
-use compare::script::{Answer, Call, NOW, POOL, SONG, STINGER, at_frame, kind, mode, plain};
+use compare::runtime::ring::{Pump, Renderer, spsc};
+use compare::script::{
+    Answer, Call, Material, NOW, POOL, SONG, STINGER, at_frame, kind, mode, plain,
+};
 use compare::session::{
     At, PerformanceError, PerformanceSnapshot, Session, Song, Stinger, Submission,
 };
-use threshreed::raw::{Command, Handle, Report, Snapshot};
+use compare::theirs::Theirs;
+use threshreed::raw::{self, Command, Handle, Report, Snapshot};
 
 // ---- our side
 
@@ -489,5 +494,45 @@ fn rule_a_takes_the_song_to_the_start() {
             .collect();
         assert_eq!(ours.play(&Call::Block(5)), Answer::made(&out, 2));
         assert_eq!(ours.session.position, 12);
+    }
+}
+
+/// The Rust's session behind a ring.
+fn ring(frames: usize) -> (Pump<Theirs>, Renderer) {
+    let (theirs, _) = Theirs::open(RATE, Material::song(1, 1));
+    spsc(theirs, frames)
+}
+
+/// An empty ring, and a block of one frame.
+#[test]
+fn a_drain_answers_half_the_block() {
+    let (_, mut renderer) = ring(1);
+    let mut out = [9.0; 2];
+    assert_eq!((renderer.fill(&mut out), out), (1, [0.0; 2]));
+
+    let mut ours = ours(&steadily(0.0, 1));
+    assert_eq!(ours.drain(2), (vec![0; 2], 0));
+}
+
+/// The least ring of the Rust's has room for a frame, and none is too large.
+#[test]
+fn a_ring_has_any_size() {
+    for (asked, room) in [(0, 1), (32_768, 32_768)] {
+        assert_eq!(ring(asked).0.pump(40_000), room);
+    }
+
+    let Ours {
+        session,
+        queue,
+        capture,
+        pool,
+        ring,
+        ..
+    } = ours(&steadily(0.0, 1));
+    for (samples, number) in [(2, 23), (3, 0), (65_536, 0), (65_537, 23)] {
+        let (mut store, mut out) = (vec![0.0; samples], [9.0; 2]);
+        let pumped = raw::pump(session, &queue, &capture, &pool, ring, &mut store, 1);
+        let drained = raw::drain(ring, &store, &mut out);
+        assert_eq!((pumped.refusal, drained.refusal), (number, number));
     }
 }
