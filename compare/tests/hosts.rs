@@ -6,7 +6,7 @@ use compare::dice::Dice;
 use compare::ours::handle_word;
 use compare::script::{NOW, SONG, STINGER, at_frame, kind, mode, plain, state};
 use threshreed::raw::{
-    self, At, Clip, Command, Handle, Loop, NO_SUCH_CASE, Ramp, Session, Settings, Snapshot,
+    self, At, Clip, Command, Handle, Loop, NO_SUCH_CASE, Ramp, Ring, Session, Settings, Snapshot,
 };
 
 const RATE: u32 = 48_000;
@@ -16,13 +16,14 @@ const QUEUE: usize = 8;
 const CAPTURE: usize = 8;
 const POOL: u64 = 512;
 
-const CALLS: [&str; 11] = [
+const CALLS: [&str; 12] = [
     "load",
     "retire",
     "submit",
     "transition",
     "replay",
     "block",
+    "pump",
     "start capture",
     "stop capture",
     "snapshot",
@@ -52,6 +53,9 @@ struct Arguments {
     at: At,
     list: Vec<u64>,
     out: Vec<f32>,
+    ring: Ring,
+    store: Vec<f32>,
+    frames: usize,
     snapshot: Snapshot,
 }
 
@@ -88,6 +92,11 @@ impl Host {
             "block" => {
                 let r = raw::block(s, q, c, p, &mut x.out);
                 assert!(r.refusal == 0 || r.passes == 0);
+                (r.refusal, r.session)
+            }
+            "pump" => {
+                let r = raw::pump(s, q, c, p, x.ring, &mut x.store, x.frames);
+                assert!(r.refusal == 0 || (r.frames, r.passes, r.ring) == (0, 0, x.ring));
                 (r.refusal, r.session)
             }
             "start capture" => {
@@ -141,6 +150,10 @@ impl Host {
         assert!(
             float_bits(&x.out) == float_bits(&arguments.out),
             "{name}: output"
+        );
+        assert!(
+            float_bits(&x.store) == float_bits(&arguments.store),
+            "{name}: ring"
         );
         refusal
     }
@@ -239,6 +252,9 @@ fn good_arguments() -> Arguments {
         at: NOW,
         list: vec![0; CAPTURE * 5],
         out: vec![f32::NAN; 6],
+        ring: Ring { head: 4, tail: 4 },
+        store: vec![f32::NAN; 7],
+        frames: 3,
         snapshot: Snapshot {
             position: 1,
             state: state::PAUSED,
@@ -365,9 +381,10 @@ fn well_formed(what: &str, change: impl FnOnce(&mut Host)) {
     }
 }
 
-/// Arguments that name no case, wherever a case is named.
+/// Arguments that name no case, wherever a case is named, and a ring outside its store.
 fn caseless() -> Arguments {
     let mut x = good_arguments();
+    x.ring.head = x.store.len();
     x.kind = 0;
     x.command.kind = 0;
     x.at.kind = 0;
@@ -755,7 +772,7 @@ fn any_arguments() {
             seen[host.refusal(name, &x) as usize] = true;
         }
     }
-    for number in [0, 2, 3, 5, 6, 7, 10, 11, 12, 13, 14, 19, 20, 22, 255] {
+    for number in [0, 2, 3, 5, 6, 7, 10, 11, 12, 13, 14, 19, 20, 22, 23, 255] {
         assert!(seen[number], "refusal {number} was never seen");
     }
 }
@@ -808,6 +825,12 @@ fn random_arguments(dice: &mut Dice, host: &Host) -> Arguments {
     };
     x.list = (0..word() % 60).map(|_| word()).collect();
     x.out = vec![f32::NAN; word() as usize % 40];
+    x.store = vec![f32::NAN; word() as usize % 40];
+    x.ring = Ring {
+        head: word() as usize,
+        tail: word() as usize,
+    };
+    x.frames = word() as usize;
     x.snapshot = Snapshot {
         position: word(),
         state: word() as u32,
