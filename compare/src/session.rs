@@ -124,11 +124,6 @@ impl Session {
         out
     }
 
-    /// The next frames, into an output that is there.
-    pub fn fill(&mut self, out: &mut [f32]) {
-        self.0.fill(out);
-    }
-
     pub fn start_capture(&mut self) {
         self.0.start_capture();
     }
@@ -197,6 +192,13 @@ impl Session {
         let falls_on = self.0.transport().frame_at_beat(beat);
         assert_eq!(falls_on, frame, "no beat falls on the frame");
         beat
+    }
+}
+
+/// The next frames, into an output that is there.
+impl AudioSource for Session {
+    fn fill(&mut self, out: &mut [f32]) -> usize {
+        self.0.fill(out)
     }
 }
 

@@ -150,8 +150,7 @@ impl Theirs {
 /// What a ring takes its frames from.
 impl AudioSource for Theirs {
     fn fill(&mut self, out: &mut [f32]) -> usize {
-        self.session.fill(out);
-        out.len() / 2
+        self.session.fill(out)
     }
 }
 

@@ -4,6 +4,8 @@
 //! its rounds, and the table gives the median of several runs, and the least and the greatest ratio. The proved calls
 //! check the session and its stores every time; a block of no frames is that check alone, timed in the same round.
 //!
+//! A block through a ring is a pump of its frames and a drain of them, on both sides.
+//!
 //! `speed blocks` names the cases of one block. `speed N ours`, `check`, `tono` or `none` makes the one in line N, from
 //! 0, up to that call, which comes last, and measures nothing: the script `compare/instructions` does.
 
@@ -11,8 +13,10 @@ use std::env;
 use std::hint::black_box;
 use std::time::Instant;
 
+use compare::runtime::AudioSource;
+use compare::runtime::ring::{Pump, Renderer, spsc};
 use compare::session::{At, Session, Song, Stinger, Submission};
-use threshreed::{ClockFrame, Command, Handle, LoopRange, Mode, SongFrame, WORDS};
+use threshreed::{ClockFrame, Command, Handle, LoopRange, Mode, Ring, SongFrame, WORDS};
 
 const RATE: u32 = 48_000;
 const QUEUE: usize = 4_096;
@@ -29,6 +33,8 @@ const CACHES: usize = 256 << 20;
 const LATER: u64 = 1 << 40;
 /// Where a loop begins.
 const LOOP: u64 = 1_000;
+/// The frames for which a ring has room.
+const RING: usize = 512;
 
 /// Plain audio: two tones of other pitches on the two sides.
 fn audio(frames: usize, pitch: f32) -> Vec<(f32, f32)> {
@@ -78,10 +84,12 @@ impl Stores {
     }
 }
 
-/// Both sides, with the same song playing.
+/// Both sides, with the same song playing, each with a ring.
 struct Both<'a> {
     ours: threshreed::Session<'a>,
-    tono: Session,
+    ring: Ring<{ 2 * RING + 1 }>,
+    tono: Pump<Session>,
+    renderer: Renderer,
     next: (Handle, Song),
     bells: Vec<(Handle, Stinger)>,
 }
@@ -106,9 +114,13 @@ impl Both<'_> {
                 (bell, Stinger::new(RATE, &ring))
             })
             .collect();
+        let tono = Session::open(&Song::new(RATE, &room, room.len() as u64));
+        let (tono, renderer) = spsc(tono, RING);
         let mut both = Both {
             ours,
-            tono: Session::open(&Song::new(RATE, &room, room.len() as u64)),
+            ring: Ring::new(),
+            tono,
+            renderer,
             next: (next, Song::new(RATE, &other, other.len() as u64)),
             bells,
         };
@@ -170,12 +182,13 @@ impl Both<'_> {
         let mut theirs = vec![0.0; out.len()];
         self.ours.block(out).expect("the block is made");
         self.tono.fill(&mut theirs);
-        assert!(
-            out.iter()
-                .zip(&theirs)
-                .all(|(ours, tono)| ours.to_bits() == tono.to_bits())
-        );
+        assert_same(out, &theirs);
     }
+}
+
+fn assert_same(ours: &[f32], tono: &[f32]) {
+    let bits = |x: &[f32]| x.iter().map(|x| x.to_bits()).collect::<Vec<_>>();
+    assert!(bits(ours) == bits(tono));
 }
 
 /// Nanoseconds of ours, of the check in it, and of tono's.
@@ -258,6 +271,8 @@ enum During {
     Pause,
     /// A loop of so many frames.
     Loop(u64),
+    /// It is pumped into a ring and drained from it.
+    Ring,
 }
 
 /// A case of one block: so many frames, with so many voices and commands that wait.
@@ -308,6 +323,10 @@ fn cases() -> Vec<Case> {
     for waiting in [64, 512, 4_095] {
         cases.extend(few(Case { waiting, ..REST }));
     }
+    cases.extend(few(Case {
+        during: During::Ring,
+        ..REST
+    }));
     cases
 }
 
@@ -326,6 +345,7 @@ impl Case {
             During::Swap(Mode::House) => "during a swap in house mode".to_string(),
             During::Pause => "paused".to_string(),
             During::Loop(frames) => format!("a loop of {frames} frames"),
+            During::Ring => "through a ring".to_string(),
         };
         match self.frames {
             1 => format!("1 frame, {voices}, {during}"),
@@ -363,7 +383,7 @@ impl Case {
             forget();
         }
         let time = run(ROUNDS, || scene.round());
-        scene.both.block(&mut scene.out);
+        scene.compare();
         time
     }
 
@@ -405,8 +425,19 @@ impl Scene<'_> {
     }
 
     fn ours(&mut self) {
+        if let During::Ring = self.during {
+            return self.ours_through_ring();
+        }
         let made = self.both.ours.block(black_box(&mut self.out));
         black_box(made).expect("the block is made");
+    }
+
+    fn ours_through_ring(&mut self) {
+        let Both { ours, ring, .. } = &mut self.both;
+        let made = ring.pump(ours, black_box(self.out.len() / 2));
+        black_box(made).expect("the frames are made");
+        let taken = ring.drain(black_box(&mut self.out));
+        black_box(taken).expect("the block is filled");
     }
 
     fn check(&mut self) {
@@ -415,7 +446,24 @@ impl Scene<'_> {
     }
 
     fn tono(&mut self) {
+        if let During::Ring = self.during {
+            return self.tono_through_ring();
+        }
         self.both.tono.fill(black_box(&mut self.out));
+    }
+
+    fn tono_through_ring(&mut self) {
+        let Both { tono, renderer, .. } = &mut self.both;
+        black_box(tono.pump(black_box(self.out.len() / 2)));
+        renderer.fill(black_box(&mut self.out));
+    }
+
+    /// Both, to the same samples.
+    fn compare(&mut self) {
+        self.ours();
+        let ours = self.out.clone();
+        self.tono();
+        assert_same(&ours, &self.out);
     }
 
     /// Of short blocks there are as many as have 512 frames, lest the clock's own time counts.
