@@ -2,7 +2,7 @@
 //! the lights change, which is when a loop has come round for the third time, and what the whole tour did. After it
 //! comes one threshold twice, while the guide speaks: as tono, where the old room bursts through, and in house mode.
 //!
-//! It makes its own clips, in plain f32 steps that hosts/c/tour.c takes in the same order, so that both write the same
+//! It makes its own clips, in plain f32 steps that hosts/c/tour.h takes in the same order, so that both make the same
 //! samples. The pool has room for two rooms and the bell: the third room comes where the first one was.
 
 use std::error::Error;
