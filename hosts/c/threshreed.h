@@ -1,5 +1,6 @@
 /* Threshreed for a host in C11 (a C++ host may include it too). Link with libhost.a, which `rt staticlib host` writes.
- * example.c is ten lines to the first sound, tour.c two minutes with every call.
+ * example.c is ten lines to the first sound, tour.c two minutes with every call, live.c the same through a ring and
+ * ALSA.
  *
  * There is no heap. `Threshreed` holds a session and the stores that a host lends it, and the functions `tr_...` take a
  * pointer to it. Above them stand the proved functions themselves, `threshreed_...`, which take a session by value and
@@ -10,8 +11,9 @@
  * Every `tr_...` call answers 0 or a refusal's number. A refused call leaves the session and all stores as they were;
  * 15 alone raises the dropped count.
  *
- * A call needs 19 to 27 KB of stack, its caller's copies of the session among them, however much there is to play. Who
- * makes one should have THRESHREED_STACK bytes left: stack.c measures each call, and fails above that.
+ * A call on a session needs 19 to 28 KB of stack, its caller's copies of the session among them, however much there is
+ * to play; a drain, which has no session, next to none. Who makes a call should have THRESHREED_STACK bytes left:
+ * stack.c measures each, and fails above that.
  */
 #ifndef THRESHREED_H
 #define THRESHREED_H
@@ -693,8 +695,8 @@ static inline uint32_t tr_block(Threshreed *t, float *out, size_t out_len, uint6
 }
 
 /* Makes frames as a block does, straight into a ring's store of 3 to 65,536 samples: those asked for, held to half the
- * free samples, of which one always stays empty. `made` tells how many, 0 if the ring is full; then `frames` may be
- * asked for again once some are drained. A refused pump leaves ring and store as they were. */
+ * free samples; one place always stays empty. `made` tells how many, 0 if the ring is full: the rest may be asked for
+ * once some are drained. `passes` is as a block's. A refused pump leaves ring and store as they were. */
 static inline uint32_t tr_pump(Threshreed *t, ThreshreedRing *ring, float *store, size_t store_len, size_t frames,
                                size_t *made, uint64_t *passes)
 {
@@ -712,13 +714,13 @@ static inline uint32_t tr_pump(Threshreed *t, ThreshreedRing *ring, float *store
     return r.refusal;
 }
 
-/* Fills the audio callback's block from a ring's store; no session is needed. The first `2 * taken` samples are what was
- * pumped, in order, and the rest is silence: a frame for which two samples are not there, and an odd last sample. A
+/* Fills the audio callback's block from a ring's store; no session is needed. The first `2 * taken` samples are what
+ * was pumped, in order, and the rest is silence: a frame for which two samples are not there, and an odd last sample. A
  * refused drain, which a ring that is pumped never sees, leaves ring and block as they were.
  *
- * Ring and store are for a single caller. A host that pumps on one thread and drains on another puts one lock around
- * each of both calls, or hands the callback its own thread's turns: the ring is a plain struct, and nothing here orders
- * what two threads read and write. */
+ * Ring and store are for a single caller: the ring is a plain struct, and nothing here orders what two threads read and
+ * write. A host that pumps on one thread and drains on another puts one lock around each of both calls; the callback
+ * then waits as long as a pump takes. */
 static inline uint32_t tr_drain(ThreshreedRing *ring, const float *store, size_t store_len, float *out, size_t out_len,
                                 size_t *taken)
 {

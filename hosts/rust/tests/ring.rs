@@ -285,6 +285,21 @@ fn a_full_ring() {
     assert_eq!(pump.clock(), ClockFrame(4));
 }
 
+/// The asking may be cut where no drain comes between: one that does makes room.
+#[test]
+fn a_drain_between_two_pumps() {
+    let made = |between: bool| {
+        let (mut stores, mut ring) = (Small::new(), Ring::<3>::new());
+        let (mut pump, mut callback) = ring.split(one_frame(&mut stores));
+        let first = pump.pump(1).unwrap().frames;
+        if between {
+            callback.drain(&mut [9.0; 2]).unwrap();
+        }
+        first + pump.pump(1).unwrap().frames
+    };
+    assert_eq!((made(false), made(true)), (1, 2));
+}
+
 #[test]
 fn an_underrun() {
     let (mut stores, mut ring) = (Small::new(), Ring::<9>::new());
