@@ -11,8 +11,6 @@ use lib.Ieee.{Float}
 use Rattle.counts.proofs.Truth.{two-ways}
 use Rattle.ramp.specs.Number.{zero32}
 use Rattle.session.specs.declared.Refusal.{Refusal}
-use Rattle.session.specs.declared.Weighed.{Weighed}
-use Rattle.session.specs.Refusal.{unless}
 use Rattle.session.proofs.Refuse.{refused-or-done}
 use Rattle.ring.specs.declared.DrainAnswer.{DrainAnswer}
 use Rattle.ring.specs.declared.Drained.{Drained}
@@ -28,8 +26,11 @@ use Rattle.pump.proofs.Weighing.{Accepted, pump-done}
 use Rattle.pump.proofs.Into.{into-length}
 use Rattle.pump.proofs.Order.{pump-within, pump-waits, pump-held}
 use Rattle.pump.proofs.Cut.{first-accepted, second-accepted, call-cut}
+use Rattle.host.specs.Answers.{saysBy, drainedBy}
+use Rattle.host.specs.Calls.{drainHost}
+use Rattle.host.proofs.Under.{number-says}
 use Rattle.promises.specs.Calls.{State, Feed, pump, code, refusal, after, withSession, pumping, feedOf}
-use Rattle.promises.specs.Feed.{Inside, waits, makes, InTwo, PumpCut, draining, drainedFrames, drainedFeed, takes, OnlySilence, Silence, DrainRefused, Turn, pumped, drained, fed, madeIn, leftIn, fedBy, allMade, allLeft, InOrder, WholeFrames}
+use Rattle.promises.specs.Feed.{Inside, waits, makes, PumpCut, draining, drainedFrames, drainedFeed, takes, OnlySilence, Silence, DrainRefused, HostDrains, Turn, pumped, drained, fed, madeIn, leftIn, fedBy, allMade, allLeft, InOrder, WholeFrames}
 use Rattle.promises.proofs.Fine.{zero-fine}
 
 -- ---- a drain
@@ -93,6 +94,18 @@ drain-refused f out n = go (two-ways (ringOk (length (f .store)) (f .ring)))
     go (inl e) = absurd (n (drain-silent f out e .accepted))
     go (inr e) =
         (ap (λ (z : Drained × List Float). record { ring = z .0 .ring; store = f .store }) (drain-left f out e), ap (λ (z : Drained × List Float). z .1) (drain-left f out e))
+
+-- what a host reads of it is what it says
+read-drained : (z : Drained) → (saysBy (drainedBy z .refusal) (drainedBy z .frames) ≡ saysDrain (z .answer)) × (drainedBy z .ring ≡ z .ring)
+read-drained z = go (z .answer) refl
+  where
+    go : (a : DrainAnswer) → z .answer ≡ a → (saysBy (drainedBy z .refusal) (drainedBy z .frames) ≡ saysDrain (z .answer)) × (drainedBy z .ring ≡ z .ring)
+    go (DrainAnswer.Drained n) e = rw e (refl, refl)
+    go (DrainAnswer.Refused k) e = rw e (number-says k 0, refl)
+
+pub host-drains : HostDrains
+unfolding drainHost
+host-drains f out = let r = read-drained (draining f out .0) in record { answer = r .0; ring = r .1; block = refl }
 
 -- ---- a pump
 

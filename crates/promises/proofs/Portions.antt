@@ -2,7 +2,7 @@
 use mathlib.Core.Path.{_≡_, refl, sym, ap, subst, _∙_}
 use mathlib.Core.List.{List, [], _∷_, _++_}
 use mathlib.Core.Logic.{_≢_}
-use Prim.Native.Nat.{ℕ, zero, suc, _+_, _*_, _%_, _^_, _≤_}
+use Prim.Native.Nat.{ℕ, zero, suc, _+_, _*_, _%_}
 use native.Mathlib.Omega.{arith}
 use lib.ListN.{length, take, drop, take-append-drop, length-append, length-take, length-drop}
 use lib.Ieee.{Float}
@@ -10,7 +10,7 @@ use borrow.Author.Tests.{eqb-false, ne-eqb}
 use Rattle.laws.specs.Block.{stand}
 use Rattle.laws.proofs.Clock.{block-clock}
 use Rattle.timeline.specs.Queue.{queue}
-use Rattle.bank.specs.Sample.{framesOf, isOdd}
+use Rattle.bank.specs.Sample.{framesOf}
 use Rattle.bank.specs.Recording.{viewOf}
 use Rattle.stage.specs.Machine.{machineOf}
 use Rattle.stage.proofs.Clock.{clocked}
@@ -27,7 +27,7 @@ use Rattle.pump.proofs.Weighing.{pump-done}
 use Rattle.promises.specs.Calls.{State, Feed, block, pump, code, refusal, after, withSession, outOf, reportOf, pumping, feedOf}
 use Rattle.promises.specs.Kept.{Good}
 use Rattle.promises.specs.Cut.{InPieces}
-use Rattle.promises.specs.Feed.{Inside, makes, drainedFeed, pumped, drained, fed, allMade, Portion, asked, played, turnsOf, portioned, allFrames, allPasses, AsOneBlock, OneBlock}
+use Rattle.promises.specs.Feed.{Inside, makes, drainedFeed, pumped, drained, allMade, Portion, asked, played, turnsOf, portioned, allFrames, allPasses, AsOneBlock, OneBlock}
 use Rattle.promises.proofs.Fine.{block-accepts, block-says}
 use Rattle.promises.proofs.Refused.{lent-back}
 use Rattle.promises.proofs.Kept.{keeps}

@@ -1,6 +1,6 @@
 -- A pump is a block of the frames made, or it is refused with 23 and leaves everything. Assumes nothing.
-use mathlib.Core.Path.{_≡_, refl, sym, ap, subst, _∙_}
-use mathlib.Core.Bool.{Bool, true, false, not}
+use mathlib.Core.Path.{_≡_, refl, sym, ap, subst}
+use mathlib.Core.Bool.{true, false, not}
 use mathlib.Core.List.{List, []}
 use mathlib.Core.Logic.{_⊎_, inl, inr}
 use Prim.Native.Nat.{ℕ, _*_, _%_, _≤_}
@@ -23,7 +23,7 @@ use Rattle.ring.specs.Ring.{ringOk, pushed}
 use Rattle.pump.specs.declared.Pumped.{Pumped}
 use Rattle.pump.specs.Pump.{saysPump, framesMade, pumpedPasses, weighPump, blockInto, pumpOf}
 use Rattle.pump.proofs.Weighing.{pump-refused}
-use Rattle.promises.specs.Calls.{State, Feed, block, pump, code, refusal, after, withSession, outOf, reportOf, pumping, feedOf}
+use Rattle.promises.specs.Calls.{State, Feed, block, pump, code, refusal, after, withSession, pumping}
 use Rattle.promises.specs.Feed.{Inside, AsBlock, PumpsBlock}
 use Rattle.promises.proofs.Fine.{both}
 

@@ -1,9 +1,10 @@
 -- 'Samples leaving the ring must be the session's own in order, with silence only in between. Demand 3's cut then holds for what is pumped.' Definitions only.
 use mathlib.Core.Path.{_≡_}
 use mathlib.Core.Bool.{true}
+use mathlib.Core.Logic.{_≢_}
 use mathlib.Core.List.{List, [], _∷_, _++_}
 use Prim.Native.Nat.{ℕ, _+_, _-_, _*_, _%_}
-use lib.ListN.{length, take, drop, replicate}
+use lib.ListN.{length, take, replicate}
 use lib.Ieee.{Float}
 use Rattle.ramp.specs.Number.{zero32}
 use Rattle.block.specs.Block.{ranOf, blockDone}
@@ -13,7 +14,9 @@ use Rattle.ring.specs.Ring.{ringOk, heldOf, waiting, pushed}
 use Rattle.ring.specs.Drain.{saysDrain, drainOf}
 use Rattle.pump.specs.declared.PumpAnswer.{PumpAnswer}
 use Rattle.pump.specs.Pump.{pumpedFrames, pumpedPasses, framesMade}
-use Rattle.promises.specs.Calls.{State, Feed, block, pump, code, refusal, after, withSession, outOf, reportOf, pumping, feedOf}
+use Rattle.host.specs.Answers.{saysBy}
+use Rattle.host.specs.Calls.{drainHost}
+use Rattle.promises.specs.Calls.{State, Feed, block, pump, code, refusal, after, outOf, reportOf, pumping, feedOf}
 use Rattle.promises.specs.Kept.{Good}
 
 -- a store of 3 to 65,536 samples, head and tail inside it
@@ -72,7 +75,7 @@ drainedFeed f out = record { ring = draining f out .0 .ring; store = f .store }
 abbrev pub takes : Feed → List Float → List Float
 takes f out = take (drainedFrames (draining f out .0 .answer) * 2) (draining f out .1)
 
--- the rest of its block is silence, and nothing else is
+-- the rest of its block is silence
 pub record OnlySilence (f : Feed) (out : List Float) : Type 0 where
   pub accepted : code (saysDrain (draining f out .0 .answer)) ≡ 0
   pub whole : length (takes f out) ≡ drainedFrames (draining f out .0 .answer) * 2
@@ -83,7 +86,16 @@ Silence = (f : Feed) (out : List Float) → Inside f → OnlySilence f out
 
 -- a refused one leaves ring and block as they were
 abbrev pub DrainRefused : Type 0
-DrainRefused = (f : Feed) (out : List Float) → (code (saysDrain (draining f out .0 .answer)) ≡ 0 → ⊥) → (drainedFeed f out ≡ f) × (draining f out .1 ≡ out)
+DrainRefused = (f : Feed) (out : List Float) → code (saysDrain (draining f out .0 .answer)) ≢ 0 → (drainedFeed f out ≡ f) × (draining f out .1 ≡ out)
+
+-- an exported one says, leaves and fills what it does
+pub record HostDrain (f : Feed) (out : List Float) : Type 0 where
+  pub answer : let o = drainHost (f .ring) (f .store) out .0 in saysBy (o .refusal) (o .frames) ≡ saysDrain (draining f out .0 .answer)
+  pub ring : drainHost (f .ring) (f .store) out .0 .ring ≡ draining f out .0 .ring
+  pub block : drainHost (f .ring) (f .store) out .1 ≡ draining f out .1
+
+abbrev pub HostDrains : Type 0
+HostDrains = (f : Feed) (out : List Float) → HostDrain f out
 
 -- ---- turns
 

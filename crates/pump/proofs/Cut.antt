@@ -1,7 +1,7 @@
 -- A pump in pieces: asking for a frames and then for b more is asking for a + b at once. Assumes nothing.
-use mathlib.Core.Path.{_≡_, refl, sym, ap, subst, _∙_}
+use mathlib.Core.Path.{_≡_, sym, ap, _∙_}
 use mathlib.Core.List.{List}
-use Prim.Native.Nat.{ℕ, _+_, _-_, _*_, _/_, _%_, _^_, _≤_, _<_, min}
+use Prim.Native.Nat.{ℕ, _+_, _-_, _*_, _/_, _^_, _≤_, _<_, min}
 use native.Mathlib.Omega.{arith}
 use native.Mathlib.Nat.{mod-add-mod}
 use lib.ListN.{length}
@@ -18,7 +18,7 @@ use Rattle.block.specs.Block.{ranOf, reported}
 use Rattle.block.proofs.Kept.{block-keeps}
 use Rattle.ring.specs.declared.SampleRing.{SampleRing}
 use Rattle.ring.specs.Ring.{ringAt, Within, heldOf, freeOf, placeAt}
-use Rattle.ring.proofs.Places.{place-on, held-lt}
+use Rattle.ring.proofs.Places.{place-on}
 use Rattle.pump.specs.declared.PumpAnswer.{PumpAnswer}
 use Rattle.pump.specs.declared.Pumped.{Pumped}
 use Rattle.pump.specs.Pump.{framesMade, blockInto, pumped, pumpDone, pumpOf, pumpedFrames, pumpedPasses}

@@ -1,14 +1,13 @@
 -- Frames made into a ring's store: in pieces, straight, and over its end. Assumes nothing.
-use mathlib.Core.Path.{_≡_, refl, sym, ap, subst, _∙_}
-use mathlib.Core.Bool.{true}
+use mathlib.Core.Path.{_≡_, sym, ap, _∙_}
 use mathlib.Core.List.{List, [], _∷_, _++_}
-use Prim.Native.Nat.{ℕ, zero, suc, _+_, _-_, _*_, _%_, _^_, _/_, _≤_, _<_, min}
+use Prim.Native.Nat.{ℕ, _+_, _-_, _*_, _%_, _^_, _/_, _≤_, _<_, min}
 use native.Mathlib.Nat.{mod-self, mod-eq-of-lt, add-mod-left, min-le-left}
 use native.Mathlib.Omega.{arith}
 use lib.ListN.{length, getD, set, take, drop, length-take, length-drop, length-append}
 use lib.Seq.{drop-drop}
-use lib.Ieee.{Float, nan}
-use Rattle.laws.specs.Block.{Machine, At, Ran, stand, block}
+use lib.Ieee.{Float}
+use Rattle.laws.specs.Block.{Machine, At, stand, block}
 use Rattle.laws.proofs.Clock.{block-length, block-clock}
 use Rattle.laws.proofs.Samples.{samples-length}
 use Rattle.laws.proofs.Stepwise.{block-stepwise}
@@ -28,7 +27,7 @@ use Rattle.block.specs.declared.BlockAnswer.{BlockAnswer}
 use Rattle.block.specs.declared.BlockAnswered.{BlockAnswered}
 use Rattle.block.specs.declared.Made.{Made}
 use Rattle.block.specs.Block.{ofParts, blockAnswered, ranOf, blockDone, reported}
-use Rattle.block.specs.Fill.{Going, Fillable}
+use Rattle.block.specs.Fill.{Fillable}
 use Rattle.block.proofs.Cut.{leftBy, done-cut}
 use Rattle.block.proofs.Kept.{block-came, block-keeps}
 use Rattle.ring.specs.Ring.{placeAt, pushed}

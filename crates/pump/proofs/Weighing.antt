@@ -19,7 +19,7 @@ use Rattle.block.specs.declared.BlockAnswered.{BlockAnswered}
 use Rattle.block.specs.declared.Made.{Made}
 use Rattle.block.specs.Block.{reported}
 use Rattle.ring.specs.declared.SampleRing.{SampleRing}
-use Rattle.ring.specs.Ring.{ringAt, ringOk, Within, heldOf, freeOf, placeAt}
+use Rattle.ring.specs.Ring.{ringAt, Within, heldOf, freeOf, placeAt}
 use Rattle.ring.proofs.Places.{within, ring-ok, held-lt}
 use Rattle.pump.specs.declared.PumpAnswer.{PumpAnswer}
 use Rattle.pump.specs.declared.Pumped.{Pumped}

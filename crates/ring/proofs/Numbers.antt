@@ -2,13 +2,12 @@
 use mathlib.Core.Path.{_≡_, refl}
 use mathlib.Core.Bool.{false}
 use mathlib.Core.List.{List, [], _∷_}
-use Prim.Native.Nat.{ℕ}
 use lib.IntN.{pos}
 use lib.ListN.{replicate}
 use lib.Ieee.{Float, fin}
 use Rattle.ramp.specs.Number.{zero32}
 use Rattle.ring.specs.declared.DrainAnswer.{DrainAnswer}
-use Rattle.ring.specs.Ring.{ringAt, heldOf, freeOf, placeAt, from, pushed, waiting}
+use Rattle.ring.specs.Ring.{ringAt, heldOf, freeOf, placeAt, from, pushed}
 use Rattle.session.specs.declared.Refusal.{Refusal}
 use Rattle.ring.specs.Drain.{byFrames, drained, drainOf}
 

@@ -1,8 +1,7 @@
 -- A drain: the block begins with what it takes, the rest is silence, and what it took no longer waits. Assumes nothing.
 use mathlib.Core.Path.{_≡_, refl, sym, ap, _∙_}
-use mathlib.Core.Bool.{true, false}
-use mathlib.Core.List.{List, [], _∷_, _++_, append-assoc, append-nil}
-use Prim.Native.Nat.{ℕ, zero, suc, _+_, _-_, _*_, _/_, _%_, _≤_, _<_, min}
+use mathlib.Core.List.{List, [], _∷_, _++_}
+use Prim.Native.Nat.{ℕ, zero, suc, _+_, _-_, _*_, _/_, _%_, _≤_, min}
 use native.Mathlib.Omega.{arith}
 use native.Mathlib.Nat.{min-le-left, min-le-right}
 use lib.ListN.{length, take, replicate}
@@ -12,7 +11,7 @@ use Rattle.ramp.specs.Number.{zero32}
 use Rattle.ring.specs.declared.SampleRing.{SampleRing}
 use Rattle.ring.specs.declared.DrainAnswer.{DrainAnswer}
 use Rattle.ring.specs.declared.Drained.{Drained}
-use Rattle.ring.specs.Ring.{ringAt, ringOk, Within, heldOf, placeAt, from, waiting}
+use Rattle.ring.specs.Ring.{ringAt, Within, heldOf, placeAt, from, waiting}
 use Rattle.ring.specs.Drain.{wholeOf, drained, drainDone, drainOf, byFrames}
 use Rattle.ring.proofs.Places.{place-lt, place-on, held-lt, tail-at, held-of, ring-ok}
 use Rattle.ring.proofs.Pushed.{from-on, from-length}
