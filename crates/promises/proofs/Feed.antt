@@ -180,14 +180,14 @@ pub pump-cut : PumpCut
 pump-cut x f a b g e =
     let s = x .session in
     let ok = pump-accepts x f (a + b) e in
-    let cut = call-cut s (x .queue) (x .capture) (x .pool) (f .ring) (f .store) a b (g .voices) ok in
+    let cut = call-cut s (x .queue) (x .capture) (x .pool) (f .ring) (f .store) a b ok (g .voices) in
     record {
-      first = pump-says x f a (first-accepted s (x .queue) (x .capture) (x .pool) (f .ring) (f .store) a b (g .voices) ok);
+      first = pump-says x f a (first-accepted s (x .queue) (x .capture) (x .pool) (f .ring) (f .store) a b ok);
       second =
           pump-says (after (pump f a) x) (feedOf x f a) b
           (subst (λ (z : Pumped × List Float). Accepted (z .0 .session) (x .queue) (x .capture) (x .pool) (z .0 .ring) (length (z .1)) b)
-          (sym (pump-done s (x .queue) (x .capture) (x .pool) (f .ring) (f .store) a (first-accepted s (x .queue) (x .capture) (x .pool) (f .ring) (f .store) a b (g .voices) ok)))
-          (second-accepted s (x .queue) (x .capture) (x .pool) (f .ring) (f .store) a b (g .voices) ok));
+          (sym (pump-done s (x .queue) (x .capture) (x .pool) (f .ring) (f .store) a (first-accepted s (x .queue) (x .capture) (x .pool) (f .ring) (f .store) a b ok)))
+          (second-accepted s (x .queue) (x .capture) (x .pool) (f .ring) (f .store) a b ok (g .voices)));
       state = sym (ap (λ (z : Pumped × List Float). withSession x (z .0 .session)) cut);
       feed = sym (ap (λ (z : Pumped × List Float). record { ring = z .0 .ring; store = z .1 }) cut);
       frames = sym (ap (λ (z : Pumped × List Float). pumpedFrames (z .0 .answer)) cut);

@@ -1,8 +1,8 @@
 -- Frames made into a ring's store: in pieces, straight, and over its end. Assumes nothing.
 use mathlib.Core.Path.{_≡_, sym, ap, _∙_}
 use mathlib.Core.List.{List, [], _∷_, _++_}
-use Prim.Native.Nat.{ℕ, _+_, _-_, _*_, _%_, _^_, _/_, _≤_, _<_, min}
-use native.Mathlib.Nat.{mod-self, mod-eq-of-lt, add-mod-left, min-le-left}
+use Prim.Native.Nat.{ℕ, _+_, _-_, _*_, _^_, _/_, _≤_, _<_, min}
+use native.Mathlib.Nat.{min-le-left}
 use native.Mathlib.Omega.{arith}
 use lib.ListN.{length, getD, set, take, drop, length-take, length-drop, length-append}
 use lib.Seq.{drop-drop}
@@ -31,19 +31,9 @@ use Rattle.block.specs.Fill.{Fillable}
 use Rattle.block.proofs.Cut.{leftBy, done-cut}
 use Rattle.block.proofs.Kept.{block-came, block-keeps}
 use Rattle.ring.specs.Ring.{placeAt, pushed}
-use Rattle.ring.proofs.Pushed.{pushed-length, pushed-append, pushed-place, pushed-straight}
+use Rattle.ring.proofs.Pushed.{pushed-length, pushed-append, pushed-place, pushed-straight, pushed-across}
 use Rattle.pump.specs.Pump.{blockInto}
 use Rattle.pump.specs.Into.{Pumpable, MadeInto, madeAfter}
-
--- two samples pushed at the last place
-pushed-two : (store : List Float) (t : ℕ) → t + 1 ≡ length store → (x y : Float) → pushed (length store) store t (x ∷ (y ∷ [])) ≡ set (set store t x) 0 y
-unfolding pushed placeAt
-pushed-two store t e x y =
-    let l : t + 0 < length store = omega arith in
-    let a : (t + 0) % length store ≡ t = mod-eq-of-lt l ∙ omega arith in
-    let z : t + 1 + 0 ≡ length store = omega arith in
-    let b : (t + 1 + 0) % length store ≡ 0 = ap (λ (i : ℕ). i % length store) z ∙ mod-self (length store) in
-    rw (a, b)
 
 -- ---- a session
 
@@ -160,7 +150,7 @@ module _ (x : Settings) (b : Bank) (t : Stage) (m : ℕ) (q : List ℕ) (pool : 
         two [] h = absurd (omega arith)
         two (y ∷ []) h = absurd (omega arith)
         two (y ∷ (z ∷ (w ∷ l))) h = absurd (omega arith)
-        two (y ∷ (z ∷ [])) h = sym (pushed-two store place e y z)
+        two (y ∷ (z ∷ [])) h = sym (pushed-across store place e y z)
 
     -- a place counts as it lies in the store
     pub into-moved : (k n : ℕ) (made : Made) (st : List Float) → placeAt (length store) place 0 ≡ placeAt (length store) k 0
@@ -216,13 +206,6 @@ module _ (x : Settings) (b : Bank) (t : Stage) (m : ℕ) (q : List ℕ) (pool : 
           ∙ ap (λ (y : BlockAnswered × List Float). (blockAnswered (BlockAnswer.Done (reported (y .0 .answer) + reported (blockInto (z .0 .session) q pool (z .1) (place + a * 2) k .0 .answer))) (blockInto (z .0 .session) q pool (z .1) (place + a * 2) k .0 .session), blockInto (z .0 .session) q pool (z .1) (place + a * 2) k .1)) (e desk)
           ∙ sym (into-cut s q pool store place a k)
           ∙ ap (blockInto s q pool store place) h
-
--- a place past the end counts from the start
-pub place-past : (n k : ℕ) → placeAt n k 0 ≡ placeAt n (n + k) 0
-unfolding placeAt
-place-past n k =
-    let z : n + k + 0 ≡ n + (k + 0) = omega arith in
-    sym (ap (λ (i : ℕ). i % n) z ∙ add-mod-left n (k + 0))
 
 -- where frames are left, as many as fit before the end were made: the end, or the last place, is reached
 pub reached-end : (n t b f : ℕ) → t < n → b ≡ min f ((n - t) / 2) → (f - b ≡ 0 → ⊥) → (n ≤ t + b * 2 + 1) × (t + b * 2 ≤ n)

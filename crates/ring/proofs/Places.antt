@@ -1,8 +1,8 @@
 -- Places of a ring: they lie in the store, and those fewer than the store apart differ. Assumes nothing.
-use mathlib.Core.Path.{_≡_, ap, _∙_}
+use mathlib.Core.Path.{_≡_, sym, ap, _∙_}
 use mathlib.Core.Bool.{Bool, true, _&&_}
 use Prim.Native.Nat.{ℕ, _+_, _-_, _%_, _≤_, _<_}
-use native.Mathlib.Nat.{mod-lt, mod-eq-of-lt, mod-eq-sub-mod, mod-add-mod}
+use native.Mathlib.Nat.{mod-lt, mod-eq-of-lt, mod-eq-sub-mod, mod-add-mod, add-mod-left}
 use native.Mathlib.Omega.{arith}
 use mathlib.Core.Logic.{⊎-elim}
 use lib.Dec.{leb, ltb}
@@ -32,9 +32,21 @@ module _ (n h : ℕ) where
   unfolding placeAt
   place-on i j = mod-add-mod (h + i) n j ∙ ap (λ (x : ℕ). x % n) (omega arith)
 
-  -- the next place is one on, or the first
-  pub place-next : h < n → h + 1 ≡ n → placeAt n h 1 ≡ 0
-  place-next l e = place-round 1 (omega arith) (omega arith) ∙ omega arith
+  -- a place that was counted from another is where it is counted from the start,
+  pub place-same : (k : ℕ) → placeAt n (placeAt n h k) 0 ≡ placeAt n (h + k) 0
+  unfolding placeAt
+  place-same k = mod-add-mod (h + k) n 0
+
+  -- and one past the end counts from the start
+  pub place-past : placeAt n h 0 ≡ placeAt n (n + h) 0
+  unfolding placeAt
+  place-past =
+      let z : n + h + 0 ≡ n + (h + 0) = omega arith in
+      sym (ap (λ (i : ℕ). i % n) z ∙ add-mod-left n (h + 0))
+
+  -- the place after the last is the first
+  pub place-next : h + 1 ≡ n → placeAt n h 1 ≡ 0
+  place-next e = place-round 1 (omega arith) (omega arith) ∙ omega arith
 
   -- two places apart by less than the store differ
   pub place-apart : h < n → (i k : ℕ) → i < k → k < n → placeAt n h i ≡ placeAt n h k → ⊥

@@ -2,6 +2,7 @@
 use mathlib.Core.Path.{_≡_, refl, sym, ap, _∙_}
 use mathlib.Core.List.{List, [], _∷_, _++_, append-assoc, append-nil}
 use Prim.Native.Nat.{ℕ, zero, suc, _+_, _-_, _%_, _≤_, _<_}
+use native.Mathlib.Nat.{mod-self, mod-eq-of-lt}
 use native.Mathlib.Numerals.{add-one}
 use native.Mathlib.Omega.{arith}
 use lib.ListN.{length, getD, set, take, drop, length-set, length-append}
@@ -9,7 +10,7 @@ use lib.Seq.{sets, sets-eq, getD-set-same, getD-set-other}
 use lib.Ieee.{Float, nan}
 use Rattle.ring.specs.declared.SampleRing.{SampleRing}
 use Rattle.ring.specs.Ring.{ringAt, Within, heldOf, placeAt, from, waiting, pushed}
-use Rattle.ring.proofs.Places.{place-straight, place-lt, place-apart, place-on, tail-at, held-of}
+use Rattle.ring.proofs.Places.{place-straight, place-lt, place-on, place-same, place-apart, tail-at, held-of}
 
 -- the store keeps its length
 pub pushed-length : (n : ℕ) (store : List Float) (t : ℕ) (xs : List Float) → length (pushed n store t xs) ≡ length store
@@ -37,11 +38,6 @@ pushed-place n store t k (x ∷ xs) e =
     next : (j : ℕ) → placeAt n (j + 1) 0 ≡ placeAt n (placeAt n j 0) 1
     next j = ap (λ (i : ℕ). i % n) (omega arith) ∙ sym (place-on n j 0 1)
 
--- as does one that was counted from another
-place-same : (n h k t : ℕ) → placeAt n h k ≡ t → placeAt n t 0 ≡ placeAt n (h + k) 0
-unfolding placeAt
-place-same n h k t e = ap (λ (j : ℕ). (j + 0) % n) (sym e) ∙ place-on n h k 0 ∙ ap (λ (j : ℕ). j % n) (omega arith)
-
 -- before the end: straight into the store
 pub pushed-straight : (store : List Float) (t : ℕ) (xs : List Float) → t + length xs ≤ length store
     → pushed (length store) store t xs ≡ take t store ++ (xs ++ drop (t + length xs) store)
@@ -56,13 +52,23 @@ pushed-straight store t xs h = by (length store) xs store t refl h ∙ sets-eq x
         ∙ by n xs (set store t x) (t + 1) (e ∙ sym (length-set store t x)) (omega arith)
         ∙ ap (λ (j : ℕ). sets (set store t x) j xs) (add-one t)
 
+-- over the end: two samples from the last place on
+pub pushed-across : (store : List Float) (t : ℕ) → t + 1 ≡ length store → (x y : Float) → pushed (length store) store t (x ∷ (y ∷ [])) ≡ set (set store t x) 0 y
+unfolding pushed placeAt
+pushed-across store t e x y =
+    let l : t + 0 < length store = omega arith in
+    let a : (t + 0) % length store ≡ t = mod-eq-of-lt l ∙ omega arith in
+    let z : t + 1 + 0 ≡ length store = omega arith in
+    let b : (t + 1 + 0) % length store ≡ 0 = ap (λ (i : ℕ). i % length store) z ∙ mod-self (length store) in
+    rw (a, b)
+
 -- a store elsewhere does not change what is read
-from-other : (store : List Float) (h : ℕ) → h < length store → (t : ℕ) (x : Float) (k : ℕ) → ((i : ℕ) → i < k → placeAt (length store) h i ≡ t → ⊥)
+from-other : (store : List Float) (h t : ℕ) (x : Float) (k : ℕ) → ((i : ℕ) → i < k → placeAt (length store) h i ≡ t → ⊥)
     → from (set store t x) h k ≡ from store h k
 unfolding from
-from-other store h hn t x zero f = refl
-from-other store h hn t x (suc k) f =
-    rw (from-other store h hn t x k (λ i l. f i (omega arith)), length-set store t x, getD-set-other store t (placeAt (length store) h k) x nan (f k (omega arith)))
+from-other store h t x zero f = refl
+from-other store h t x (suc k) f =
+    rw (from-other store h t x k (λ i l. f i (omega arith)), length-set store t x, getD-set-other store t (placeAt (length store) h k) x nan (f k (omega arith)))
 
 -- one sample pushed behind what waits is read last
 from-push : (store : List Float) (h k : ℕ) → h < length store → k < length store → (x : Float)
@@ -70,7 +76,7 @@ from-push : (store : List Float) (h k : ℕ) → h < length store → k < length
 unfolding from
 from-push store h k hn kn x =
     rw (
-      from-other store h hn (placeAt (length store) h k) x k (λ i l. place-apart (length store) h hn i k l kn),
+      from-other store h (placeAt (length store) h k) x k (λ i l. place-apart (length store) h hn i k l kn),
       length-set store (placeAt (length store) h k) x,
       getD-set-same store (placeAt (length store) h k) x nan (place-lt (length store) h k (omega arith)),
     )
@@ -113,33 +119,35 @@ from-length store h (suc k) =
 
 -- ---- a ring
 
-module _ (r : SampleRing) (store xs : List Float) (w : Within (length store) r) where
+module _ (r : SampleRing) (store xs : List Float) where
   -- the ring with its tail past samples pushed from there on
-  abbrev pub behind : SampleRing
+  abbrev behind : SampleRing
   behind = ringAt (r .head) (placeAt (length store) (r .tail) (length xs))
 
-  -- it stays within its store,
-  pub behind-within : Within (length (pushed (length store) store (r .tail) xs)) behind
-  behind-within =
-      rw (pushed-length (length store) store (r .tail) xs)
-      (record { least = w .least; most = w .most; head = w .head; tail = place-lt (length store) (r .tail) (length xs) (omega (arith, w .least)) })
+  module _ (w : Within (length store) r) where
+    -- it stays within its store,
+    pub behind-within : Within (length (pushed (length store) store (r .tail) xs)) behind
+    behind-within =
+        rw (pushed-length (length store) store (r .tail) xs)
+        (record { least = w .least; most = w .most; head = w .head; tail = place-lt (length store) (r .tail) (length xs) (omega (arith, w .least)) })
 
-  module _ (fits : length xs + heldOf (length store) r < length store) where
-    -- so many more wait,
-    pub behind-held : heldOf (length store) behind ≡ heldOf (length store) r + length xs
-    behind-held =
-        let n : ℕ = length store in
-        let k : ℕ = heldOf n r in
-        let e : placeAt n (r .tail) (length xs) ≡ placeAt n (r .head) (k + length xs) =
-        ap (λ (j : ℕ). placeAt n j (length xs)) (sym (tail-at n r w)) ∙ place-on n (r .head) k (length xs) in
-        ap (λ (j : ℕ). heldOf n (ringAt (r .head) j)) e ∙ held-of n (r .head) (k + length xs) (w .head) (omega arith)
+    module _ (fits : length xs + heldOf (length store) r < length store) where
+      -- so many more wait,
+      pub behind-held : heldOf (length store) behind ≡ heldOf (length store) r + length xs
+      behind-held =
+          let n : ℕ = length store in
+          let k : ℕ = heldOf n r in
+          let e : placeAt n (r .tail) (length xs) ≡ placeAt n (r .head) (k + length xs) =
+          ap (λ (j : ℕ). placeAt n j (length xs)) (sym (tail-at n r w)) ∙ place-on n (r .head) k (length xs) in
+          ap (λ (j : ℕ). heldOf n (ringAt (r .head) j)) e ∙ held-of n (r .head) (k + length xs) (w .head) (omega arith)
 
-    -- and they are heard after those that waited
-    pub behind-waits : waiting behind (pushed (length store) store (r .tail) xs) ≡ waiting r store ++ xs
-    behind-waits =
-        let n : ℕ = length store in
-        let k : ℕ = heldOf n r in
-        let st : List Float = pushed n store (r .tail) xs in
-        let here : st ≡ pushed n store (r .head + k) xs = pushed-place n store (r .tail) (r .head + k) xs (place-same n (r .head) k (r .tail) (tail-at n r w)) in
-        let all : heldOf (length st) behind ≡ k + length xs = ap (λ (j : ℕ). heldOf j behind) (pushed-length n store (r .tail) xs) ∙ behind-held in
-        ap (from st (r .head)) all ∙ ap (λ (y : List Float). from y (r .head) (k + length xs)) here ∙ from-pushed xs store (r .head) k (w .head) (omega arith)
+      -- and they are heard after those that waited
+      pub behind-waits : waiting behind (pushed (length store) store (r .tail) xs) ≡ waiting r store ++ xs
+      behind-waits =
+          let n : ℕ = length store in
+          let k : ℕ = heldOf n r in
+          let st : List Float = pushed n store (r .tail) xs in
+          let here : st ≡ pushed n store (r .head + k) xs =
+          pushed-place n store (r .tail) (r .head + k) xs (ap (λ (j : ℕ). placeAt n j 0) (sym (tail-at n r w)) ∙ place-same n (r .head) k) in
+          let all : heldOf (length st) behind ≡ k + length xs = ap (λ (j : ℕ). heldOf j behind) (pushed-length n store (r .tail) xs) ∙ behind-held in
+          ap (from st (r .head)) all ∙ ap (λ (y : List Float). from y (r .head) (k + length xs)) here ∙ from-pushed xs store (r .head) k (w .head) (omega arith)

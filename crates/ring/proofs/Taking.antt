@@ -59,73 +59,71 @@ frames-first (x ∷ (y ∷ xs)) (suc (suc m)) =
 
 -- ---- a drain
 
-module _ (r : SampleRing) (store : List Float) (w : Within (length store) r) where
+-- the frames that a block of m samples takes
+module _ (n : ℕ) (r : SampleRing) (m : ℕ) where
+  -- wait,
+  pub whole-held : wholeOf n r m * 2 ≤ heldOf n r
+  whole-held = omega (arith, min-le-right (m / 2) (heldOf n r / 2))
+
+  -- and fit the block
+  pub whole-most : wholeOf n r m * 2 ≤ m
+  whole-most = omega (arith, min-le-left (m / 2) (heldOf n r / 2))
+
+module _ (r : SampleRing) (store : List Float) where
   -- the ring with the head k samples on
-  abbrev pub ahead : ℕ → SampleRing
+  abbrev ahead : ℕ → SampleRing
   ahead k = ringAt (placeAt (length store) (r .head) k) (r .tail)
 
-  -- it stays within its store,
-  pub ahead-within : (k : ℕ) → Within (length store) (ahead k)
-  ahead-within k = record { least = w .least; most = w .most; head = place-lt (length store) (r .head) k (omega (arith, w .least)); tail = w .tail }
+  abbrev whole : ℕ → ℕ
+  whole = wholeOf (length store) r
 
-  -- k samples fewer wait,
-  pub ahead-held : (k : ℕ) → k ≤ heldOf (length store) r → heldOf (length store) (ahead k) ≡ heldOf (length store) r - k
-  ahead-held k l =
-      let m : ℕ = length store in
-      let x : ℕ = heldOf m r in
-      let h : ℕ = placeAt m (r .head) k in
-      let e : k + (x - k) ≡ x = omega arith in
-      let t : placeAt m h (x - k) ≡ r .tail = place-on m (r .head) k (x - k) ∙ ap (placeAt m (r .head)) e ∙ tail-at m r w in
-      ap (λ (y : ℕ). heldOf m (ringAt h y)) (sym t)
-      ∙ held-of m h (x - k) (place-lt m (r .head) k (omega (arith, w .least))) (omega (arith, held-lt m r w))
+  module _ (w : Within (length store) r) where
+    -- k samples fewer wait,
+    ahead-held : (k : ℕ) → k ≤ heldOf (length store) r → heldOf (length store) (ahead k) ≡ heldOf (length store) r - k
+    ahead-held k l =
+        let m : ℕ = length store in
+        let x : ℕ = heldOf m r in
+        let h : ℕ = placeAt m (r .head) k in
+        let e : k + (x - k) ≡ x = omega arith in
+        let t : placeAt m h (x - k) ≡ r .tail = place-on m (r .head) k (x - k) ∙ ap (placeAt m (r .head)) e ∙ tail-at m r w in
+        ap (λ (y : ℕ). heldOf m (ringAt h y)) (sym t)
+        ∙ held-of m h (x - k) (place-lt m (r .head) k (omega (arith, w .least))) (omega (arith, held-lt m r w))
 
-  -- and what waited is those k and then what waits
-  pub ahead-waits : (k : ℕ) → k ≤ heldOf (length store) r → waiting r store ≡ from store (r .head) k ++ waiting (ahead k) store
-  ahead-waits k l =
-      let e : k + (heldOf (length store) r - k) ≡ heldOf (length store) r = omega arith in
-      ap (from store (r .head)) (sym e)
-      ∙ from-on store (r .head) k (heldOf (length store) r - k)
-      ∙ ap (λ (j : ℕ). from store (r .head) k ++ from store (placeAt (length store) (r .head) k) j) (sym (ahead-held k l))
+    -- and what waited is those k and then what waits
+    ahead-waits : (k : ℕ) → k ≤ heldOf (length store) r → waiting r store ≡ from store (r .head) k ++ waiting (ahead k) store
+    ahead-waits k l =
+        let e : k + (heldOf (length store) r - k) ≡ heldOf (length store) r = omega arith in
+        ap (from store (r .head)) (sym e)
+        ∙ from-on store (r .head) k (heldOf (length store) r - k)
+        ∙ ap (λ (j : ℕ). from store (r .head) k ++ from store (placeAt (length store) (r .head) k) j) (sym (ahead-held k l))
 
-  module _ (m : ℕ) where
-    -- the frames that a block of m samples takes
-    abbrev pub whole : ℕ
-    whole = wholeOf (length store) r m
+    module _ (m : ℕ) where
+      -- THE BLOCK: what it takes, and then silence alone
+      pub drain-block : byFrames (waiting r store) m ≡ from store (r .head) (whole m * 2) ++ replicate (m - whole m * 2) zero32
+      drain-block =
+          frames-first (waiting r store) m
+          ∙ rw (from-length store (r .head) (heldOf (length store) r), ahead-waits (whole m * 2) (whole-held (length store) r m))
+          (ap (λ (l : List Float). l ++ replicate (m - whole m * 2) zero32) (take-at (from store (r .head) (whole m * 2)) (waiting (ahead (whole m * 2)) store) (whole m * 2) (from-length store (r .head) (whole m * 2))))
 
-    -- they wait,
-    pub whole-held : whole * 2 ≤ heldOf (length store) r
-    whole-held = omega (arith, min-le-right (m / 2) (heldOf (length store) r / 2))
+      -- what waited is what it took, and then what waits
+      pub drain-waits : waiting r store ≡ from store (r .head) (whole m * 2) ++ waiting (drainDone r store m .0 .ring) store
+      drain-waits = ahead-waits (whole m * 2) (whole-held (length store) r m)
 
-    -- and fit the block
-    pub whole-most : whole * 2 ≤ m
-    whole-most = omega (arith, min-le-left (m / 2) (heldOf (length store) r / 2))
+      -- the ring stays within its store
+      pub drain-within : Within (length store) (drainDone r store m .0 .ring)
+      drain-within = record { least = w .least; most = w .most; head = place-lt (length store) (r .head) (whole m * 2) (omega (arith, w .least)); tail = w .tail }
 
-    -- THE BLOCK: what it takes, and then silence alone
-    pub drain-block : byFrames (waiting r store) m ≡ from store (r .head) (whole * 2) ++ replicate (m - whole * 2) zero32
-    drain-block =
-        frames-first (waiting r store) m
-        ∙ rw (from-length store (r .head) (heldOf (length store) r), ahead-waits (whole * 2) whole-held)
-        (ap (λ (l : List Float). l ++ replicate (m - whole * 2) zero32) (take-at (from store (r .head) (whole * 2)) (waiting (ahead (whole * 2)) store) (whole * 2) (from-length store (r .head) (whole * 2))))
+      -- a whole number of frames stays a whole number of frames
+      pub drain-even : heldOf (length store) r % 2 ≡ 0 → heldOf (length store) (drainDone r store m .0 .ring) % 2 ≡ 0
+      drain-even e = rw (ahead-held (whole m * 2) (whole-held (length store) r m)) (omega (arith, whole-held (length store) r m))
 
-    -- what waited is what it took, and then what waits
-    pub drain-waits : waiting r store ≡ from store (r .head) (whole * 2) ++ waiting (drainDone r store m .0 .ring) store
-    drain-waits = ahead-waits (whole * 2) whole-held
+    -- a ring within its store is not refused
+    pub drain-done : (out : List Float) → drainOf r store out ≡ drainDone r store (length out)
+    unfolding drainOf
+    drain-done out = simp (ring-ok (length store) r w)
 
-    -- the ring stays within its store
-    pub drain-within : Within (length store) (drainDone r store m .0 .ring)
-    drain-within = ahead-within (whole * 2)
-
-    -- a whole number of frames stays a whole number of frames
-    pub drain-even : heldOf (length store) r % 2 ≡ 0 → heldOf (length store) (drainDone r store m .0 .ring) % 2 ≡ 0
-    drain-even e = rw (ahead-held (whole * 2) whole-held) (omega (arith, whole-held))
-
-  -- a ring within its store is not refused
-  pub drain-done : (out : List Float) → drainOf r store out ≡ drainDone r store (length out)
-  unfolding drainOf
-  drain-done out = simp (ring-ok (length store) r w)
-
-  -- what a drain gives that takes k frames, moves the head past them, and fills the block with them and silence
-  pub drain-gives : (out : List Float) (k : ℕ) → k ≡ whole (length out) → (p : ℕ) → p ≡ placeAt (length store) (r .head) (k * 2)
-      → (ys : List Float) → ys ≡ from store (r .head) (k * 2) ++ replicate (length out - k * 2) zero32
-      → _≡_ {A = Drained × List Float} (drained (DrainAnswer.Drained k) (ringAt p (r .tail)), ys) (drainOf r store out)
-  drain-gives out k e p f ys g = rw (drain-done out, g, f, e, drain-block (length out))
+    -- what a drain gives that takes k frames, moves the head past them, and fills the block with them and silence
+    pub drain-gives : (out : List Float) (k : ℕ) → k ≡ whole (length out) → (p : ℕ) → p ≡ placeAt (length store) (r .head) (k * 2)
+        → (ys : List Float) → ys ≡ from store (r .head) (k * 2) ++ replicate (length out - k * 2) zero32
+        → _≡_ {A = Drained × List Float} (drained (DrainAnswer.Drained k) (ringAt p (r .tail)), ys) (drainOf r store out)
+    drain-gives out k e p f ys g = rw (drain-done out, g, f, e, drain-block (length out))

@@ -5,7 +5,8 @@ use native.Mathlib.Omega.{arith}
 use lib.ListN.{length}
 use borrow.Author.Needs.{needs}
 use Rattle.ring.specs.Ring.{placeAt}
-use Rattle.pump.proofs.Into.{pumpable-less, into-moved, on-length, on-few, on-pumpable, on-joined, place-past}
+use Rattle.ring.proofs.Places.{place-past}
+use Rattle.pump.proofs.Into.{pumpable-less, into-moved, on-length, on-few, on-pumpable, on-joined}
 use Rattle.pump.proofs.over.Statement.{statement}
 use Rattle.pump.proofs.over.Tie as tie
 

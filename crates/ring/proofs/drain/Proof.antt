@@ -42,14 +42,14 @@ pour-requires : tie.Need-pour-requires
 pour-requires c κs =
     let a = c .before .before .before .before .before .before .before .args in
     let w = inside (c .before .before .before) in
-    (w .head, omega (arith, whole (c .before), whole-most _ (a .store .now) w (length (a .out .now))))
+    (w .head, omega (arith, whole (c .before), whole-most (length (a .store .now)) (a .r) (length (a .out .now))))
 
 place-requires : tie.Need-place-requires
 place-requires c κs =
     let d = c .before .before .before .before in
     let a = d .before .before .before .before .before .before .args in
     let w = inside (d .before .before) in
-    (w .head, omega (arith, whole d, whole-held _ (a .store .now) w (length (a .out .now)), held-lt _ _ w), w .most)
+    (w .head, omega (arith, whole d, whole-held (length (a .store .now)) (a .r) (length (a .out .now)), held-lt _ _ w), w .most)
 
 same-length : tie.Need-same-length
 same-length c = search needs

@@ -10,7 +10,7 @@ add-after : tie.Need-add-after
 add-after c = search needs
 
 returns : tie.Need-returns
-returns c = sym (place-next _ _ (c .before .pre) (c .if1 .taken))
+returns c = sym (place-next _ _ (c .if1 .taken))
 
 returns-2 : tie.Need-returns-2
 returns-2 c = sym (place-straight _ _ 1 (omega (arith, c .before .pre, c .if1 .left)))
