@@ -7,8 +7,8 @@
 //! each block of ours in pieces too; [`house`] plays them in house mode, which the Rust does not have. [`undo`]
 //! looks at the laws of snapshots in both modes after each call, [`between`] at those of a load and a
 //! retirement beside a block. [`turns`] makes their frames into a ring instead, which a callback drains.
-//! [`reached`] counts what they reach, and [`list`] writes the fixed list of the Rust's answers. [`faults`] are
-//! planted into a copy of the Rust to show that the comparison sees them.
+//! [`reached`] counts what they reach, [`tell`] prints it, and [`list`] writes the fixed list of the Rust's answers.
+//! [`faults`] are planted into a copy of the Rust to show that the comparison sees them.
 //!
 //! - `cargo test`: document 01's numbers on the Rust, the differences on both, the declick at every rate, the
 //!   passes of a loop and snapshots one after the other on both, spoiled sessions through the static library,
@@ -39,6 +39,7 @@ pub mod script;
 pub mod session;
 pub mod sessions;
 pub mod streaming;
+pub mod tell;
 pub mod theirs;
 pub mod turns;
 pub mod undo;

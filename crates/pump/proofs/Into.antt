@@ -27,7 +27,6 @@ use Rattle.block.specs.declared.BlockAnswer.{BlockAnswer}
 use Rattle.block.specs.declared.BlockAnswered.{BlockAnswered}
 use Rattle.block.specs.declared.Made.{Made}
 use Rattle.block.specs.Block.{ofParts, blockAnswered, ranOf, blockDone, reported}
-use Rattle.block.specs.Fill.{Fillable}
 use Rattle.block.proofs.Cut.{leftBy, done-cut}
 use Rattle.block.proofs.Kept.{block-came, block-keeps}
 use Rattle.ring.specs.Ring.{placeAt, pushed}
@@ -110,13 +109,9 @@ module _ (x : Settings) (b : Bank) (t : Stage) (m : ℕ) (q : List ℕ) (pool : 
   abbrev at : Desk → Session
   at desk = ofParts x b t m desk
 
-  -- where so many frames can be made, fewer can,
+  -- where so many frames can be made, fewer can
   pub pumpable-less : (n k : ℕ) → k ≤ n → Pumpable x b t m q pool n → Pumpable x b t m q pool k
   pumpable-less n k l p = record { going = p .going; lent = p .lent; clock = omega (arith, p .clock) }
-
-  -- into a part of the store too
-  pub part-fillable : (n : ℕ) (out : List Float) → Pumpable x b t m q pool n → length out ≡ n * 2 → Fillable x b t m q pool out
-  part-fillable n out p e = record { going = p .going; lent = p .lent; even = omega arith; clock = omega (arith, p .clock) }
 
   module _ (store : List Float) (place : ℕ) where
     -- STRAIGHT: the part that a block was made into, put back, is the store with its samples pushed
