@@ -17,6 +17,8 @@ use Rattle.block.specs.declared.BlockAnswered.{BlockAnswered}
 use Rattle.ring.specs.declared.SampleRing.{SampleRing}
 use Rattle.ring.specs.declared.DrainAnswer.{DrainAnswer}
 use Rattle.ring.specs.declared.Drained.{Drained}
+use Rattle.tourfile.specs.declared.TourAnswer.{TourAnswer}
+use Rattle.tourfile.specs.Answer.{faultNumber}
 use Rattle.pump.specs.declared.PumpAnswer.{PumpAnswer}
 use Rattle.pump.specs.declared.Pumped.{Pumped}
 use Rattle.clips.specs.declared.LoadAnswer.{LoadAnswer}
@@ -42,6 +44,7 @@ use Rattle.host.specs.declared.HostSubmitted.{HostSubmitted}
 use Rattle.host.specs.declared.HostBlocked.{HostBlocked}
 use Rattle.host.specs.declared.HostPumped.{HostPumped}
 use Rattle.host.specs.declared.HostDrained.{HostDrained}
+use Rattle.host.specs.declared.HostTour.{HostTour}
 use Rattle.host.specs.declared.HostReplayed.{HostReplayed}
 use Rattle.host.specs.declared.HostStopped.{HostStopped}
 use Rattle.host.specs.declared.HostSnapped.{HostSnapped}
@@ -183,6 +186,15 @@ drainedWith (DrainAnswer.Refused k) r = drained (numberOf k) 0 r
 
 abbrev pub drainedBy : Drained → HostDrained
 drainedBy x = drainedWith (x .answer) (x .ring)
+
+-- ---- how many records or bytes, or a fault with its place: a tour's file, which is lent no session
+
+abbrev pub toured : ℕ → ℕ → ℕ → HostTour
+toured n x at = record { refusal = n; count = x; place = at }
+
+abbrev pub touredBy : TourAnswer → HostTour
+touredBy (TourAnswer.Done n) = toured 0 n 0
+touredBy (TourAnswer.Refused x at) = toured (faultNumber x) 0 at
 
 -- ---- a report: replay
 

@@ -2,6 +2,7 @@
 use Prim.Native.Nat.{ℕ}
 use mathlib.Core.Bool.{true, _&&_}
 use mathlib.Core.List.{List}
+use lib.ListN.{length}
 use lib.Ieee.{Float}
 use Rattle.counts.specs.declared.SongFrame.{SongFrame}
 use Rattle.counts.specs.declared.Handle.{Handle}
@@ -20,6 +21,8 @@ use Rattle.block.specs.Block.{blockOf}
 use Rattle.ring.specs.declared.SampleRing.{SampleRing}
 use Rattle.ring.specs.declared.Drained.{Drained}
 use Rattle.ring.specs.Drain.{drainOf}
+use Rattle.tourfile.specs.Reader.{readOf, readInto}
+use Rattle.tourfile.specs.Writer.{recordsOf, writeOf, writeInto}
 use Rattle.pump.specs.declared.Pumped.{Pumped}
 use Rattle.pump.specs.Pump.{pumpOf}
 use Rattle.control.specs.declared.StopAnswered.{StopAnswered}
@@ -36,13 +39,14 @@ use Rattle.host.specs.declared.HostSubmitted.{HostSubmitted}
 use Rattle.host.specs.declared.HostBlocked.{HostBlocked}
 use Rattle.host.specs.declared.HostPumped.{HostPumped}
 use Rattle.host.specs.declared.HostDrained.{HostDrained}
+use Rattle.host.specs.declared.HostTour.{HostTour}
 use Rattle.host.specs.declared.HostReplayed.{HostReplayed}
 use Rattle.host.specs.declared.HostStopped.{HostStopped}
 use Rattle.host.specs.declared.HostSnapped.{HostSnapped}
 use Rattle.host.specs.declared.HostMetrics.{HostMetrics}
 use Rattle.host.specs.Kept.{isKind, kindOf, sessionOf}
 use Rattle.host.specs.Arguments.{isSubmission, submissionOf, isAt, atOf, isSnapshot, snapshotOf}
-use Rattle.host.specs.Answers.{weighHost, unless, refused, answeredBy, loadRefused, loadedBy, openedBy, submitRefused, submittedBy, blockRefused, blockedBy, pumpRefused, pumpedBy, drainedBy, replayRefused, replayedBy, stopRefused, stoppedBy, snapshotRefused, snappedBy, metricsRefused, meteredBy}
+use Rattle.host.specs.Answers.{weighHost, unless, refused, answeredBy, loadRefused, loadedBy, openedBy, submitRefused, submittedBy, blockRefused, blockedBy, pumpRefused, pumpedBy, drainedBy, touredBy, replayRefused, replayedBy, stopRefused, stoppedBy, snapshotRefused, snappedBy, metricsRefused, meteredBy}
 
 -- answer and session; pool
 unfoldable pub openHost : Settings → List ℕ → List ℕ → List Float → List Float → ℕ → SongFrame → HostLoaded × List Float
@@ -94,6 +98,14 @@ unfoldable pub drainHost : SampleRing → List Float → List Float → HostDrai
 drainHost r store out =
     let z : Drained × List Float = drainOf r store out in
     (drainedBy (z .0), z .1)
+
+-- answer; list
+unfoldable pub readTourHost : List ℕ → List ℕ → List ℕ → HostTour × List ℕ
+readTourHost clips file list = (touredBy (readOf clips file (length list)), readInto clips file list)
+
+-- answer; output
+unfoldable pub writeTourHost : List ℕ → List ℕ → List ℕ → HostTour × List ℕ
+writeTourHost clips records out = (touredBy (writeOf clips (recordsOf records) (length out)), writeInto clips (recordsOf records) out)
 
 unfoldable pub startCaptureHost : HostSession → List ℕ → List ℕ → HostAnswered
 startCaptureHost h q c = unless (weighHost h q c true) (refused h) (answeredBy h (startCaptureOf (sessionOf h) q c))

@@ -7,8 +7,8 @@ ghost use lib.Ieee.{Float};
 ghost use Rattle.bank.specs.declared.Clip.{Clip};
 ghost use Rattle.host.specs.Kept.{isKind, kindOf, kindNumber, clipOf, clipNumbers, isState, stateOf, stateNumber, isFlag, flagOf, flagNumber, loopOf, loopNumbers, tailOf, tailNumbers, slotNamed, kindsOk, isSession, stageOf, sessionOf, hostOf};
 ghost use Rattle.host.specs.Arguments.{isSubmission, submissionOf, isAt, atOf, isSnapshot, snapshotOf, snapshotNumbers};
-ghost use Rattle.host.specs.Answers.{turned, weighHost, refused, answeredBy, loadRefused, loadedBy, openedBy, submitRefused, submittedBy, blockRefused, pumpRefused, pumpedBy, drainedBy, replayRefused, replayedBy, stopRefused, stoppedBy, noSnapshot, snapshotRefused, snappedBy, noMetrics, metricsRefused, meteredBy};
-ghost use Rattle.host.specs.Calls.{openHost, loadHost, retireHost, submitHost, transitionHost, replayHost, blockHost, pumpHost, drainHost, startCaptureHost, stopCaptureHost, snapshotHost, applyHost, metricsHost};
+ghost use Rattle.host.specs.Answers.{turned, weighHost, refused, answeredBy, loadRefused, loadedBy, openedBy, submitRefused, submittedBy, blockRefused, pumpRefused, pumpedBy, drainedBy, touredBy, replayRefused, replayedBy, stopRefused, stoppedBy, noSnapshot, snapshotRefused, snappedBy, noMetrics, metricsRefused, meteredBy};
+ghost use Rattle.host.specs.Calls.{openHost, loadHost, retireHost, submitHost, transitionHost, replayHost, blockHost, pumpHost, drainHost, readTourHost, writeTourHost, startCaptureHost, stopCaptureHost, snapshotHost, applyHost, metricsHost};
 use bank::Bank;
 use bank::Clip;
 use bank::Kind;
@@ -50,6 +50,7 @@ use submission::Report;
 use submission::SubmitAnswer;
 use submission::SubmitAnswered;
 use timeline::Submission;
+use tourfile::TourAnswer;
 use transport::At;
 use transport::LoopRange;
 use transport::Transport;
@@ -186,6 +187,14 @@ pub struct HostDrained {
     pub refusal: u32,
     pub frames: usize,
     pub ring: SampleRing,
+}
+
+/// What a tour's file gives: how many records were read or bytes written, or a fault's number and its place.
+#[repr(C)]
+pub struct HostTour {
+    pub refusal: u32,
+    pub count: usize,
+    pub place: usize,
 }
 
 #[repr(C)]
@@ -831,6 +840,23 @@ fn drained(x: Drained) -> HostDrained
     }
 }
 
+fn toured(a: TourAnswer) -> HostTour
+    ensures { λ r. ⌜ r ≡ touredBy a ⌝ }
+{
+    match a {
+        TourAnswer::Done(count) => HostTour {
+            refusal: 0,
+            count,
+            place: 0,
+        },
+        TourAnswer::Refused(x, place) => HostTour {
+            refusal: x.number(),
+            count: 0,
+            place,
+        },
+    }
+}
+
 fn replay_refused(number: u32, h: HostSession) -> HostReplayed
     ensures { λ r. ⌜ r ≡ replayRefused h number ⌝ }
 {
@@ -1185,6 +1211,28 @@ pub extern "C" fn threshreed_drain(r: SampleRing, store: &[f32], out: &mut [f32]
 {
     let x = ring::drain(r, store, out);
     drained(x)
+}
+
+/// Reads a tour's file: the records of its commands at the list's front.
+#[no_mangle]
+pub extern "C" fn threshreed_read_tour(clips: &[u64; 32], file: &[u8], list: &mut [u64]) -> HostTour
+    ensures { λ r. ⌜ _≡_ {A = HostTour × List ℕ} (r, now (list .exit)) (readTourHost (now (clips .entry)) (now (file .entry)) (now (list .entry))) ⌝ }
+{
+    let a = tourfile::read_tour(clips, file, list);
+    toured(a)
+}
+
+/// Writes a list's records to a tour's file, at the output's front.
+#[no_mangle]
+pub extern "C" fn threshreed_write_tour(
+    clips: &[u64; 32],
+    records: &[u64],
+    out: &mut [u8],
+) -> HostTour
+    ensures { λ r. ⌜ _≡_ {A = HostTour × List ℕ} (r, now (out .exit)) (writeTourHost (now (clips .entry)) (now (records .entry)) (now (out .entry))) ⌝ }
+{
+    let a = tourfile::write_tour(clips, records, out);
+    toured(a)
 }
 
 /// Starts capture, empty.

@@ -238,7 +238,7 @@ pub fn row_of(r: QueueRecord) -> Row
 }
 
 /// A record is readable when its kind is one of the ten; the word of a gain has 32 bits.
-fn readable(x: Row) -> bool
+pub fn readable(x: Row) -> bool
     ensures { λ r. ⌜ r ≡ readable x ⌝ }
 {
     let kind = x.kind;

@@ -20,6 +20,7 @@ use stage::Settings;
 use submission::ReplayAnswered;
 use submission::SubmitAnswered;
 use timeline::Submission;
+use tourfile::TourAnswer;
 use transport::At;
 
 // ---- what both calls answered
@@ -37,6 +38,8 @@ pub struct BlockTwice(pub BlockAnswered, pub BlockAnswered);
 pub struct PumpTwice(pub Pumped, pub Pumped);
 
 pub struct DrainTwice(pub Drained, pub Drained);
+
+pub struct TourTwice(pub TourAnswer, pub TourAnswer);
 
 pub struct StopTwice(pub StopAnswered, pub StopAnswered);
 
@@ -294,4 +297,38 @@ pub fn metrics(
     let one = control::metrics(s, queue, capture);
     let other = control::metrics(s, queue2, capture2);
     MetricsTwice(one, other)
+}
+
+// ---- a tour's file
+
+pub fn read_tour(
+    clips: &[u64; 32],
+    file: &[u8],
+    list: &mut [u64],
+    clips2: &[u64; 32],
+    file2: &[u8],
+    list2: &mut [u64],
+) -> TourTwice
+    requires { ⌜ (now clips ≡ now clips2) × (now file ≡ now file2) × (now list ≡ now list2) ⌝ }
+    ensures { λ r. ⌜ (r .0 ≡ r .1) × (now (list .exit) ≡ now (list2 .exit)) ⌝ }
+{
+    let one = tourfile::read_tour(clips, file, list);
+    let other = tourfile::read_tour(clips2, file2, list2);
+    TourTwice(one, other)
+}
+
+pub fn write_tour(
+    clips: &[u64; 32],
+    records: &[u64],
+    out: &mut [u8],
+    clips2: &[u64; 32],
+    records2: &[u64],
+    out2: &mut [u8],
+) -> TourTwice
+    requires { ⌜ (now clips ≡ now clips2) × (now records ≡ now records2) × (now out ≡ now out2) ⌝ }
+    ensures { λ r. ⌜ (r .0 ≡ r .1) × (now (out .exit) ≡ now (out2 .exit)) ⌝ }
+{
+    let one = tourfile::write_tour(clips, records, out);
+    let other = tourfile::write_tour(clips2, records2, out2);
+    TourTwice(one, other)
 }

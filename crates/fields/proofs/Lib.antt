@@ -1,0 +1,5 @@
+pub mod Fields
+pub mod Numbers
+pub mod Writes
+pub mod Places
+pub mod Parts

@@ -1,0 +1,10 @@
+use Rattle.fields.specs.Clips.{isHandle}
+use Rattle.fields.proofs.is_handle.Statement.{statement}
+use Rattle.fields.proofs.is_handle.Tie as tie
+
+returns : tie.Need-returns
+unfolding isHandle
+returns c = cc
+
+pub is-handle-spec : {M : Type 1} → statement M
+is-handle-spec = tie.close (tie.spec returns)

@@ -1,0 +1,4 @@
+pub mod Bytes
+pub mod Clips
+pub mod Field
+pub mod Steps

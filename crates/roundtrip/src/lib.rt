@@ -1,0 +1,1 @@
+//! No code: what reader and writer of a tour promise of each other.

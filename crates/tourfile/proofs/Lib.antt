@@ -1,0 +1,4 @@
+pub mod Judging
+pub mod Turns
+pub mod Writes
+pub mod Answers

@@ -1,0 +1,17 @@
+use Rattle.tourfile.specs.Reader.{otherVersion}
+use borrow.Author.Needs.{needs}
+use Rattle.tourfile.proofs.other_version.Statement.{statement}
+use Rattle.tourfile.proofs.other_version.Tie as tie
+
+byte-requires : tie.Need-byte-requires
+byte-requires c κs = search needs
+
+two-requires : tie.Need-two-requires
+two-requires c κs = search needs
+
+returns : tie.Need-returns
+unfolding otherVersion
+returns c = cc
+
+pub other-version-spec : {M : Type 1} → statement M
+other-version-spec = tie.close (tie.spec byte-requires two-requires returns)

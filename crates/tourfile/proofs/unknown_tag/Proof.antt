@@ -1,0 +1,14 @@
+use Rattle.tourfile.specs.Reader.{unknownTag}
+use borrow.Author.Needs.{needs}
+use Rattle.tourfile.proofs.unknown_tag.Statement.{statement}
+use Rattle.tourfile.proofs.unknown_tag.Tie as tie
+
+byte-requires : tie.Need-byte-requires
+byte-requires c κs = search needs
+
+returns : tie.Need-returns
+unfolding unknownTag
+returns c = cc
+
+pub unknown-tag-spec : {M : Type 1} → statement M
+unknown-tag-spec = tie.close (tie.spec byte-requires returns)

@@ -1,0 +1,14 @@
+use Rattle.tourfile.specs.Reader.{wrongFirst}
+use borrow.Author.Needs.{needs}
+use Rattle.tourfile.proofs.wrong_first.Statement.{statement}
+use Rattle.tourfile.proofs.wrong_first.Tie as tie
+
+byte-requires : tie.Need-byte-requires
+byte-requires c κs = search needs
+
+returns : tie.Need-returns
+unfolding wrongFirst
+returns c = cc
+
+pub wrong-first-spec : {M : Type 1} → statement M
+wrong-first-spec = tie.close (tie.spec byte-requires returns)

@@ -1,0 +1,4 @@
+pub mod Answer
+pub mod Reader
+pub mod Writer
+pub mod Steps
