@@ -18,7 +18,7 @@ use Rattle.ring.specs.declared.SampleRing.{SampleRing}
 use Rattle.ring.specs.declared.DrainAnswer.{DrainAnswer}
 use Rattle.ring.specs.declared.Drained.{Drained}
 use Rattle.tourfile.specs.declared.TourAnswer.{TourAnswer}
-use Rattle.tourfile.specs.Answer.{faultNumber}
+use Rattle.tourfile.specs.Answer.{faultNumber, SaysTour, gives, refuses}
 use Rattle.pump.specs.declared.PumpAnswer.{PumpAnswer}
 use Rattle.pump.specs.declared.Pumped.{Pumped}
 use Rattle.clips.specs.declared.LoadAnswer.{LoadAnswer}
@@ -195,6 +195,10 @@ toured n x at = record { refusal = n; count = x; place = at }
 abbrev pub touredBy : TourAnswer → HostTour
 touredBy (TourAnswer.Done n) = toured 0 n 0
 touredBy (TourAnswer.Refused x at) = toured (faultNumber x) 0 at
+
+-- what it says: a number of 0 is how many
+abbrev pub saysTourBy : HostTour → SaysTour
+saysTourBy r = cond (eqb (r .refusal) 0) (gives (r .count)) (refuses (r .refusal) (r .place))
 
 -- ---- a report: replay
 

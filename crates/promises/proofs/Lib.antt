@@ -31,3 +31,4 @@ pub mod Opens
 pub mod Heard
 pub mod Signs
 pub mod Hosts
+pub mod Tours

@@ -21,3 +21,4 @@ pub mod Feed
 pub mod Opens
 pub mod Signs
 pub mod Hosts
+pub mod Tours

@@ -1,3 +1,5 @@
+-- `bytes_after` meets its contract.
+use mathlib.Core.Path.{refl}
 use Rattle.tourfile.specs.Reader.{bytesAfter}
 use borrow.Author.Needs.{needs}
 use Rattle.tourfile.proofs.bytes_after.Statement.{statement}
@@ -8,7 +10,7 @@ byte-requires c κs = search needs
 
 returns : tie.Need-returns
 unfolding bytesAfter
-returns c = cc
+returns c = rw (← c .byte .ensures) refl
 
 pub bytes-after-spec : {M : Type 1} → statement M
 bytes-after-spec = tie.close (tie.spec byte-requires returns)

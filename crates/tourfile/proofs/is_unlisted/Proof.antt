@@ -1,4 +1,5 @@
 -- `is_unlisted` meets its contract.
+use mathlib.Core.Path.{refl}
 use Rattle.tourfile.specs.Writer.{unlisted}
 use borrow.Author.Needs.{needs}
 use Rattle.tourfile.proofs.is_unlisted.Statement.{statement}
@@ -12,7 +13,7 @@ clip-byte-requires c κs = search needs
 
 returns : tie.Need-returns
 unfolding unlisted
-returns c = cc
+returns c = rw (← c .before .has-clip .ensures, ← c .clip-byte .ensures) refl
 
 pub is-unlisted-spec : {M : Type 1} → statement M
 is-unlisted-spec =

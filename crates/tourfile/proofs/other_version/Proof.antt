@@ -1,3 +1,5 @@
+-- `other_version` meets its contract.
+use mathlib.Core.Path.{refl}
 use Rattle.tourfile.specs.Reader.{otherVersion}
 use borrow.Author.Needs.{needs}
 use Rattle.tourfile.proofs.other_version.Statement.{statement}
@@ -11,7 +13,7 @@ two-requires c κs = search needs
 
 returns : tie.Need-returns
 unfolding otherVersion
-returns c = cc
+returns c = rw (← c .before .byte .ensures, ← c .two .ensures) refl
 
 pub other-version-spec : {M : Type 1} → statement M
 other-version-spec = tie.close (tie.spec byte-requires two-requires returns)

@@ -1,3 +1,5 @@
+-- `too_many` meets its contract.
+use mathlib.Core.Path.{refl}
 use Rattle.tourfile.specs.Reader.{tooMany}
 use borrow.Author.Needs.{needs}
 use Rattle.tourfile.proofs.too_many.Statement.{statement}
@@ -8,7 +10,7 @@ byte-requires c κs = search needs
 
 returns : tie.Need-returns
 unfolding tooMany
-returns c = cc
+returns c = rw (← c .before .byte .ensures) refl
 
 pub too-many-spec : {M : Type 1} → statement M
 too-many-spec = tie.close (tie.spec byte-requires returns)

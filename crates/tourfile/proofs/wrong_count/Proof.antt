@@ -1,3 +1,5 @@
+-- `wrong_count` meets its contract.
+use mathlib.Core.Path.{refl}
 use Rattle.tourfile.specs.Reader.{wrongCount}
 use borrow.Author.Needs.{needs}
 use Rattle.tourfile.proofs.wrong_count.Statement.{statement}
@@ -14,7 +16,7 @@ cast-told c = search needs
 
 returns : tie.Need-returns
 unfolding wrongCount
-returns c = cc
+returns c = rw (← c .before .before .byte .ensures, ← c .before .two .ensures) refl
 
 pub wrong-count-spec : {M : Type 1} → statement M
 wrong-count-spec = tie.close (tie.spec byte-requires two-requires cast-told returns)
