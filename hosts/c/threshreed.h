@@ -724,7 +724,7 @@ static inline uint32_t tr_pump(Threshreed *t, ThreshreedRing *ring, float *store
 static inline uint32_t tr_drain(ThreshreedRing *ring, const float *store, size_t store_len, float *out, size_t out_len,
                                 size_t *taken)
 {
-    static const float no_samples;
+    static const float no_samples = 0.0f;
     static float no_block;
     ThreshreedDrained r = threshreed_drain(*ring, store ? store : &no_samples, store ? store_len : 0,
                                            out ? out : &no_block, out ? out_len : 0);
