@@ -14,7 +14,7 @@ enum { RATE = 48000, FRAMES = 2048, PAINT = 0xA5 };
 static uint64_t queue[64 * THRESHREED_WORDS], capture[64 * THRESHREED_WORDS], list[64 * THRESHREED_WORDS];
 static float pool[2 * 4 * FRAMES], clip[2 * FRAMES], out[2 * 512], store[2 * 512 + 1];
 static const uint32_t kinds[] = {THRESHREED_CLIP_SONG, THRESHREED_CLIP_STINGER, THRESHREED_CLIP_STINGER};
-static ThreshreedHandle clips[LEN(kinds)];
+static ThreshreedHandle clips[LEN(kinds)], listed[THRESHREED_SLOTS];
 static struct {
     ThreshreedCommand command;
     ThreshreedAt at;
@@ -26,6 +26,8 @@ static ThreshreedReport report;
 static ThreshreedRing ring = {500, 500};
 static size_t copied, made, taken;
 static uint64_t passes;
+static uint8_t file[THRESHREED_TOUR_BYTES(64)];
+static size_t bytes;
 static Threshreed t;
 
 /* The calls, each in a function of its own; `nth` counts those of one name. */
@@ -45,6 +47,8 @@ CALL(pump, tr_pump(&t, &ring, store, LEN(store), 512, &made, &passes))
 CALL(drain, tr_drain(&ring, store, LEN(store), out, LEN(out), &taken))
 CALL(start_capture, tr_start_capture(&t))
 CALL(stop_capture, tr_stop_capture(&t, list, LEN(list), &copied))
+CALL(write_tour, tr_write_tour(listed, list, copied * THRESHREED_WORDS, file, LEN(file), &bytes, NULL))
+CALL(read_tour, tr_read_tour(listed, file, bytes, list, LEN(list), &copied, NULL))
 CALL(take_snapshot, tr_snapshot(&t, &snapshot))
 CALL(apply_snapshot, tr_apply_snapshot(&t, snapshot))
 CALL(read_metrics, tr_metrics(&t, &metrics))
@@ -125,6 +129,9 @@ int main(void)
     measure("block", block, 4);
     measure("metrics", read_metrics, 1);
     measure("stop_capture", stop_capture, 1);
+    tr_clips(&t, listed);
+    measure("write_tour", write_tour, 1);
+    measure("read_tour", read_tour, 1);
     measure("replay", replay, 1);
     measure("pump", pump, 1);
     measure("drain", drain, 1);

@@ -1,5 +1,5 @@
 /* The header's own part: the session and the stores that it keeps, what it reads, the refusals' words, NULL where
- * nothing is lent or wanted. */
+ * nothing is lent or wanted; and files of tours, each refusal by its number and its place. */
 #include <math.h>
 #include <stdio.h>
 #include <stdlib.h>
@@ -486,6 +486,267 @@ static void rings(void)
     EXPECT(tr_drain(&ring, three, LEN(three), NULL, 8, &taken) == 0 && taken == 0 && stands(ring, 0, 1));
 }
 
+/* ---- files of tours */
+
+enum { COMMANDS = 4096, BYTES = THRESHREED_TOUR_BYTES(COMMANDS + 1) };
+
+/* A file's fields, where `number` and `count` are one byte of the whole. The commands are due at frame 7. */
+#define VERSION "\1\2\0\1\0"
+#define COUNT(count) "\3\2\0" count "\0"
+#define COMMAND(length, number, kind) "\2" length "\0\7\0\0\0\0\0\0\0" number "\0\0\0\0\0\0\0" kind
+#define PLAY(number) COMMAND("\x11", number, "\1")
+#define SWAP(number, clip) COMMAND("\x12", number, "\x9" clip)
+
+/* The only clip that these files list, as byte 3. */
+static const ThreshreedHandle listed[THRESHREED_SLOTS] = {[3] = {30, 7}};
+
+/* Small files, and what the reader answers: 0 or a number, and how many records or a place. */
+static const struct {
+    const char *file;
+    size_t bytes;
+    uint32_t refusal;
+    size_t told;
+} small[] = {
+#define SMALL(file, refusal, told) {file, sizeof file - 1, refusal, told}
+    SMALL("", THRESHREED_CUT_SHORT, 0),
+    SMALL("\x9", THRESHREED_CUT_SHORT, 0),
+    SMALL("\x9\0\0", THRESHREED_WRONG_FIRST_TAG, 0),
+    SMALL("\x80\0\0", THRESHREED_WRONG_FIRST_TAG, 0),
+    SMALL("\x80\x14\0" PLAY("\5") COUNT("\1"), THRESHREED_WRONG_FIRST_TAG, 0),
+    SMALL(VERSION, THRESHREED_CUT_SHORT, 5),
+    SMALL(VERSION PLAY("\5"), THRESHREED_CUT_SHORT, 25),
+    SMALL("\1\2\0\2\0", THRESHREED_OTHER_VERSION, 0),
+    SMALL("\1\3\0\1\0\0", THRESHREED_WRONG_LENGTH, 0),
+    SMALL(VERSION VERSION, THRESHREED_UNKNOWN_TAG, 5),
+    SMALL(VERSION "\x7F\0\0" COUNT("\0"), THRESHREED_UNKNOWN_TAG, 5),
+    SMALL(VERSION COUNT("\0"), 0, 0),
+    SMALL(VERSION "\x80\0\0" COUNT("\0"), 0, 0),
+    SMALL(VERSION "\xFF\2\0\7\7" PLAY("\0") "\x80\0\0" PLAY("\1") COUNT("\2"), 0, 2),
+    SMALL(VERSION COUNT("\1"), THRESHREED_WRONG_COUNT, 5),
+    SMALL(VERSION COUNT("\1") "\0", THRESHREED_WRONG_COUNT, 5),
+    SMALL(VERSION COUNT("\0") "\0", THRESHREED_BYTES_AFTER_END, 5),
+    SMALL(VERSION COUNT("\0") COUNT("\0"), THRESHREED_BYTES_AFTER_END, 5),
+    SMALL(VERSION PLAY("\5") PLAY("\5") COUNT("\2"), THRESHREED_NOT_RISING, 25),
+    SMALL(VERSION PLAY("\5") SWAP("\5", "\4") COUNT("\2"), THRESHREED_NOT_LISTED, 25),
+    SMALL(VERSION COMMAND("\x11", "\1", "\xB") COUNT("\1"), THRESHREED_UNKNOWN_KIND, 5),
+    SMALL(VERSION COMMAND("\x12", "\1", "\0\0") COUNT("\1"), THRESHREED_UNKNOWN_KIND, 5),
+    SMALL(VERSION COMMAND("\x12", "\1", "\1\0") COUNT("\1"), THRESHREED_WRONG_LENGTH, 5),
+    SMALL(VERSION "\2\0\0" COUNT("\1"), THRESHREED_WRONG_LENGTH, 5),
+    SMALL(VERSION SWAP("\1", "\3") COUNT("\1"), 0, 1),
+    SMALL(VERSION SWAP("\1", "\4") COUNT("\1"), THRESHREED_NOT_LISTED, 5),
+    SMALL(VERSION SWAP("\1", "\x20") COUNT("\1"), THRESHREED_NOT_LISTED, 5),
+#undef SMALL
+};
+
+/* One of every kind: a gain of a NaN's bits, clip 3 of those listed. What a kind does not use is 0. */
+static const uint64_t kinds[][THRESHREED_WORDS] = {
+    {9, 0, THRESHREED_PLAY, 0, 0},
+    {8, 1, THRESHREED_PAUSE, 0, 0},
+    {7, 2, THRESHREED_STOP, 0, 0},
+    {7, 5, THRESHREED_SEEK, UINT64_MAX, 0},
+    {UINT64_MAX, 6, THRESHREED_TRANSITION, 1, 0},
+    {0, 7, THRESHREED_LOOP, 5, 5},
+    {0, 8, THRESHREED_CLEAR_LOOP, 0, 0},
+    {0, 9, THRESHREED_GAIN, 0x7F800001, 0},
+    {0, 10, THRESHREED_SWAP, UINT64_C(30) << 32 | 7, 0},
+    {0, UINT64_MAX, THRESHREED_STINGER, UINT64_C(30) << 32 | 7, 0xFFFFFFFF},
+};
+
+enum { KINDS = 4 * 20 + 2 * 28 + 36 + 24 + 21 + 25 + 10 };
+
+/* Each of so many words. */
+static bool filled_words(const uint64_t *words, size_t count, uint64_t with)
+{
+    for (size_t i = 0; i < count; i += 1) {
+        if (words[i] != with) {
+            return false;
+        }
+    }
+    return true;
+}
+
+static bool filled_bytes(const uint8_t *bytes, size_t count, uint8_t with)
+{
+    for (size_t i = 0; i < count; i += 1) {
+        if (bytes[i] != with) {
+            return false;
+        }
+    }
+    return true;
+}
+
+/* A reading into a list of so many words: 0 or a number, with how many records or the place in `told`. A refused one
+ * leaves the list, and an accepted one what stands behind its records. */
+static uint32_t reading(const ThreshreedHandle *clips, const uint8_t *file, size_t bytes, size_t words, size_t *told)
+{
+    static uint64_t list[COMMANDS * THRESHREED_WORDS];
+    size_t records = 99999, place = 99999;
+    memset(list, 9, sizeof list);
+    uint32_t refusal = tr_read_tour(clips, file, bytes, list, words, &records, &place);
+    size_t written = refusal == 0 ? records * THRESHREED_WORDS : 0;
+    EXPECT((refusal == 0 ? place : records) == 99999 && written <= words);
+    EXPECT(filled_words(list + written, LEN(list) - written, UINT64_C(0x0909090909090909)));
+    *told = refusal == 0 ? records : place;
+    return refusal;
+}
+
+/* A writing to an output of so many bytes, likewise. */
+static uint32_t writing(const ThreshreedHandle *clips, const uint64_t *records, size_t words, size_t bytes,
+                        size_t *told)
+{
+    static uint8_t out[BYTES];
+    size_t length = 999999, place = 999999;
+    memset(out, 9, sizeof out);
+    uint32_t refusal = tr_write_tour(clips, records, words, out, bytes, &length, &place);
+    size_t written = refusal == 0 ? length : 0;
+    EXPECT((refusal == 0 ? place : length) == 999999 && written <= bytes);
+    EXPECT(filled_bytes(out + written, LEN(out) - written, 9));
+    *told = refusal == 0 ? length : place;
+    return refusal;
+}
+
+/* What the reader answers, by number and place. */
+static void refused_files(void)
+{
+    static uint8_t large[BYTES];
+    ThreshreedHandle twice[THRESHREED_SLOTS];
+    uint64_t list[THRESHREED_WORDS];
+    size_t told;
+    memcpy(twice, listed, sizeof twice);
+    twice[31] = twice[3];
+    for (size_t i = 0; i < LEN(small); i += 1) {
+        const uint8_t *file = (const uint8_t *)small[i].file;
+        EXPECT(reading(listed, file, small[i].bytes, 10, &told) == small[i].refusal && told == small[i].told);
+        EXPECT(reading(twice, file, small[i].bytes, 10, &told) == THRESHREED_LISTED_TWICE && told == 0);
+    }
+    EXPECT(reading(listed, NULL, 5, 10, &told) == THRESHREED_CUT_SHORT && told == 0);
+
+    /* The list comes last: one word is missing; none is lent. */
+    const uint8_t one[] = VERSION SWAP("\1", "\3") COUNT("\1");
+    EXPECT(reading(listed, one, sizeof one - 1, 4, &told) == THRESHREED_RECORDS_TOO_SHORT && told == 0);
+    EXPECT(reading(NULL, one, sizeof one - 1, 4, &told) == THRESHREED_NOT_LISTED && told == 5);
+    EXPECT(tr_read_tour(listed, one, sizeof one - 1, NULL, 5, NULL, NULL) == THRESHREED_RECORDS_TOO_SHORT);
+    EXPECT(tr_read_tour(listed, one, sizeof one - 1, list, 5, NULL, NULL) == 0);
+    EXPECT(list[0] == 7 && list[1] == 1 && list[2] == 9 && list[3] == (UINT64_C(30) << 32 | 7) && list[4] == 0);
+
+    /* 4,096 commands and one more. */
+    size_t at = sizeof VERSION - 1;
+    memcpy(large, VERSION, at);
+    for (size_t i = 0; i <= COMMANDS; i += 1, at += 20) {
+        memcpy(large + at, PLAY("\0"), 20);
+        large[at + 11] = (uint8_t)i;
+        large[at + 12] = (uint8_t)(i >> 8);
+    }
+    memcpy(large + at, COUNT("\1"), 5);
+    large[at + 4] = COMMANDS >> 8;
+    const size_t words = COMMANDS * THRESHREED_WORDS;
+    EXPECT(reading(listed, large, at + 5, words, &told) == THRESHREED_TOO_MANY && told == at - 20);
+    at -= 20;
+    memcpy(large + at, large + at + 20, 5);
+    EXPECT(reading(listed, large, at + 5, words, &told) == THRESHREED_WRONG_COUNT && told == at);
+    large[at + 3] = 0;
+    EXPECT(reading(listed, large, at + 5, words, &told) == 0 && told == COMMANDS);
+    EXPECT(reading(listed, large, at + 5, words - 1, &told) == THRESHREED_RECORDS_TOO_SHORT && told == 0);
+}
+
+/* What the writer answers, by number and place. */
+static void refused_records(void)
+{
+    static uint64_t many[(COMMANDS + 1) * THRESHREED_WORDS];
+    uint64_t records[LEN(kinds)][THRESHREED_WORDS];
+    const uint64_t *words = records[0];
+    ThreshreedHandle twice[THRESHREED_SLOTS];
+    size_t told;
+    memcpy(twice, listed, sizeof twice);
+    twice[0] = twice[3];
+    memcpy(records, kinds, sizeof records);
+    EXPECT(writing(listed, words, LEN(records) * 5, KINDS, &told) == 0 && told == KINDS);
+    EXPECT(writing(twice, words, LEN(records) * 5, 0, &told) == THRESHREED_LISTED_TWICE && told == 0);
+    EXPECT(writing(listed, words, LEN(records) * 5, KINDS - 1, &told) == THRESHREED_OUTPUT_TOO_SHORT && told == 0);
+    EXPECT(tr_write_tour(listed, words, LEN(records) * 5, NULL, KINDS, NULL, NULL) == THRESHREED_OUTPUT_TOO_SHORT);
+    EXPECT(writing(listed, NULL, 5, 10, &told) == 0 && told == 10);
+    EXPECT(writing(NULL, words, LEN(records) * 5, 0, &told) == THRESHREED_NOT_LISTED && told == 8);
+
+    /* From the last fault to the first, of a record and of those before it. */
+    records[9][1] = records[8][1];
+    EXPECT(writing(listed, words, LEN(records) * 5, 0, &told) == THRESHREED_NOT_RISING && told == 9);
+    records[9][3] += 1;
+    EXPECT(writing(listed, words, LEN(records) * 5, 0, &told) == THRESHREED_NOT_LISTED && told == 9);
+    records[9][4] += 1;
+    EXPECT(writing(listed, words, LEN(records) * 5, 0, &told) == THRESHREED_UNREADABLE_RECORD && told == 9);
+    records[8][3] = UINT64_C(30) << 32;
+    EXPECT(writing(listed, words, LEN(records) * 5, 0, &told) == THRESHREED_NOT_LISTED && told == 8);
+    records[7][3] = UINT64_C(1) << 32;
+    EXPECT(writing(listed, words, LEN(records) * 5, 0, &told) == THRESHREED_UNREADABLE_RECORD && told == 7);
+    records[1][1] = 0;
+    EXPECT(writing(listed, words, LEN(records) * 5, 0, &told) == THRESHREED_NOT_RISING && told == 1);
+    records[0][2] = 11;
+    EXPECT(writing(listed, words, LEN(records) * 5, 0, &told) == THRESHREED_UNREADABLE_RECORD && told == 0);
+
+    /* 4,096 commands, all loops, and one more; a fault of the last comes before their number. */
+    for (size_t i = 0; i <= COMMANDS; i += 1) {
+        many[i * 5 + 1] = i;
+        many[i * 5 + 2] = THRESHREED_LOOP;
+    }
+    EXPECT(writing(listed, many, LEN(many) - 1, THRESHREED_TOUR_BYTES(COMMANDS), &told) == 0);
+    EXPECT(told == THRESHREED_TOUR_BYTES(COMMANDS));
+    EXPECT(writing(listed, many, LEN(many), 0, &told) == THRESHREED_TOO_MANY && told == 0);
+    many[COMMANDS * 5 + 2] = 0;
+    EXPECT(writing(listed, many, LEN(many), 0, &told) == THRESHREED_UNREADABLE_RECORD && told == COMMANDS);
+}
+
+/* Records there and back, and a file back and there. */
+static void there_and_back(void)
+{
+    uint64_t records[LEN(kinds)][THRESHREED_WORDS], list[LEN(kinds) + 1][THRESHREED_WORDS];
+    uint8_t file[KINDS], again[KINDS];
+    size_t bytes, count;
+    memcpy(records, kinds, sizeof records);
+    /* What a kind does not use is not looked at. */
+    records[0][3] = records[0][4] = records[3][4] = records[7][4] = records[8][4] = UINT64_MAX;
+    EXPECT(tr_write_tour(listed, records[0], LEN(records) * 5 + 4, file, LEN(file), &bytes, NULL) == 0);
+    EXPECT(bytes == KINDS && memcmp(file, VERSION "\2\x11\0\x9", 9) == 0);
+    EXPECT(tr_read_tour(listed, file, bytes, list[0], LEN(list) * 5, &count, NULL) == 0 && count == LEN(kinds));
+    EXPECT(memcmp(list, kinds, sizeof kinds) == 0);
+    EXPECT(tr_write_tour(listed, list[0], count * 5, again, LEN(again), &bytes, NULL) == 0 && bytes == KINDS);
+    EXPECT(memcmp(file, again, KINDS) == 0);
+}
+
+/* A capture that is saved, and replayed in another session, whose clips have other serials. */
+static void saved(void)
+{
+    ThreshreedHandle clips[THRESHREED_SLOTS], bell, spare;
+    uint64_t list[2 * THRESHREED_WORDS], again[2 * THRESHREED_WORDS];
+    uint8_t file[THRESHREED_TOUR_BYTES(2)];
+    ThreshreedReport report;
+    size_t count, bytes;
+    static Host host, other;
+    lend(&host);
+    EXPECT(tr_open(&host.t, 48000, pair, LEN(pair), 48000, 8) == 0);
+    EXPECT(tr_load_stinger(&host.t, old, LEN(old), 48000, &bell) == 0 && tr_start_capture(&host.t) == 0);
+    EXPECT(tr_submit(&host.t, tr_play(), tr_now()) == 0);
+    EXPECT(tr_submit(&host.t, tr_stinger(bell, 0.5f), tr_at_clock(1)) == 0);
+    EXPECT(tr_stop_capture(&host.t, list, LEN(list), &count) == 0 && count == 2);
+    tr_clips(&host.t, clips);
+    EXPECT(clips[0].slot == 0 && clips[0].serial == 1 && clips[1].slot == 1 && clips[1].serial == bell.serial);
+    EXPECT(clips[2].serial == 0 && clips[31].serial == 0);
+    EXPECT(tr_write_tour(clips, list, count * 5, file, LEN(file), &bytes, NULL) == 0 && bytes == 10 + 20 + 25);
+    EXPECT(tr_block(&host.t, host.out, LEN(host.out), NULL) == 0);
+
+    lend(&other);
+    EXPECT(tr_open(&other.t, 48000, pair, LEN(pair), 48000, 8) == 0);
+    EXPECT(tr_load_song(&other.t, pair, LEN(pair), 48000, 2, &spare) == 0 && tr_retire(&other.t, spare) == 0);
+    tr_clips(&other.t, clips);
+    EXPECT(clips[0].serial == 1 && clips[1].serial == 0);
+    EXPECT(tr_load_stinger(&other.t, old, LEN(old), 48000, &spare) == 0);
+    tr_clips(&other.t, clips);
+    EXPECT(clips[1].serial == spare.serial && spare.serial == bell.serial + 1);
+    EXPECT(tr_read_tour(clips, file, bytes, again, LEN(again), &count, NULL) == 0 && count == 2);
+    EXPECT(again[8] == list[8] + 1 && tr_replay(&other.t, again, LEN(again), &report) == 0 && report.taken == 2);
+    EXPECT(tr_block(&other.t, other.out, LEN(other.out), NULL) == 0);
+    EXPECT(memcmp(host.out, other.out, sizeof host.out) == 0 && host.out[2] == 0.25f + 0.35f);
+}
+
 /* NULL for a result that is not wanted. */
 static void unwanted_results(void)
 {
@@ -519,6 +780,10 @@ int main(void)
     undo();
     between_blocks();
     rings();
+    refused_files();
+    refused_records();
+    there_and_back();
+    saved();
     unwanted_results();
 
     /* Nothing is lent. */
@@ -589,6 +854,7 @@ int main(void)
     EXPECT(tr_metrics(&t, &metrics) == 0 && metrics.rendered == 5 && metrics.dropped == 1 && metrics.deepest == 4);
 
     EXPECT(strcmp(threshreed_refusal(THRESHREED_STALE), "stale handle") == 0);
+    EXPECT(strcmp(threshreed_refusal(THRESHREED_CUT_SHORT), "file cut short") == 0);
     EXPECT(strcmp(threshreed_refusal(0), "none") == 0 && strcmp(threshreed_refusal(254), "none") == 0);
     printf("test: %d as expected\n", expected);
     return 0;

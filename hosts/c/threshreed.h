@@ -1,6 +1,6 @@
 /* Threshreed for a host in C11 (a C++ host may include it too). Link with libhost.a, which `rt staticlib host` writes.
  * example.c is ten lines to the first sound, tour.c two minutes with every call, live.c the same through a ring and
- * ALSA.
+ * ALSA, saved.c a walk that is kept in a file and played again.
  *
  * There is no heap. `Threshreed` holds a session and the stores that a host lends it, and the functions `tr_...` take a
  * pointer to it. Above them stand the proved functions themselves, `threshreed_...`, which take a session by value and
@@ -12,8 +12,8 @@
  * 15 alone raises the dropped count.
  *
  * A call on a session needs 19 to 28 KB of stack, its caller's copies of the session among them, however much there is
- * to play; a drain, which has no session, next to none. Who makes a call should have THRESHREED_STACK bytes left:
- * stack.c measures each, and fails above that.
+ * to play; a drain and a tour's file, which have no session, next to none. Who makes a call should have
+ * THRESHREED_STACK bytes left: stack.c measures each, and fails above that.
  */
 #ifndef THRESHREED_H
 #define THRESHREED_H
@@ -28,7 +28,7 @@
 extern "C" {
 #endif
 
-/* ---- the refusals */
+/* ---- the refusals: to 23 of a session and its ring, from 101 on of a tour's file */
 
 #define THRESHREED_REFUSALS(X) \
     X(1, NOT_WELL_FORMED, "session or its stores not well formed") \
@@ -54,6 +54,21 @@ extern "C" {
     X(21, UNREADABLE, "replayed record unreadable (seen only as a skip)") \
     X(22, SENSELESS_LOOP, "senseless loop: its start is not below its end") \
     X(23, BAD_RING, "ring's store not of 3 to 65,536 samples, or its head or tail outside") \
+    X(101, LISTED_TWICE, "handle listed twice") \
+    X(102, CUT_SHORT, "file cut short") \
+    X(103, WRONG_FIRST_TAG, "wrong first tag") \
+    X(104, UNKNOWN_TAG, "unknown tag") \
+    X(105, WRONG_LENGTH, "field of a wrong length") \
+    X(106, OTHER_VERSION, "file of another version") \
+    X(107, UNKNOWN_KIND, "unknown kind of command") \
+    X(108, NOT_LISTED, "clip not listed") \
+    X(109, NOT_RISING, "number not rising") \
+    X(110, TOO_MANY, "more than 4,096 commands") \
+    X(111, WRONG_COUNT, "wrong count of commands") \
+    X(112, BYTES_AFTER_END, "bytes after the end") \
+    X(113, RECORDS_TOO_SHORT, "list for a tour's records too short") \
+    X(114, UNREADABLE_RECORD, "record unreadable") \
+    X(115, OUTPUT_TOO_SHORT, "output for a tour's file too short") \
     X(255, NO_SUCH_CASE, "argument names no case")
 
 /* THRESHREED_NOT_WELL_FORMED to THRESHREED_NO_SUCH_CASE. */
@@ -84,6 +99,9 @@ enum {
     /* Bytes of stack that are enough for any call. */
     THRESHREED_STACK = 32768
 };
+
+/* The bytes that a tour's file of so many commands has at most: all of them loops. */
+#define THRESHREED_TOUR_BYTES(commands) (10 + 36 * (commands))
 
 /* A session's mode, chosen at opening. As tono: a swap's tail ignores the master gain, so that the old room bursts
  * through at full level where the score is turned down, and a song whose position is past its loop sounds from the
@@ -316,6 +334,14 @@ typedef struct {
     ThreshreedSession session;
 } ThreshreedMetered;
 
+/* Of a tour's file: how many records were read, or bytes written. If it is refused, where: the first byte of the field
+ * at fault, or which record of the list; 0 if it is none. */
+typedef struct {
+    uint32_t refusal;
+    size_t count;
+    size_t place;
+} ThreshreedTour;
+
 /* The same numbers are tested against the Rust types. */
 #define THRESHREED_SIZE(type, bytes) static_assert(sizeof(Threshreed##type) == (bytes), #type)
 #define THRESHREED_OFFSET(type, field, bytes) \
@@ -479,6 +505,11 @@ THRESHREED_OFFSET(Metered, refusal, 0);
 THRESHREED_OFFSET(Metered, metrics, 8);
 THRESHREED_OFFSET(Metered, session, 56);
 
+THRESHREED_SIZE(Tour, 24);
+THRESHREED_OFFSET(Tour, refusal, 0);
+THRESHREED_OFFSET(Tour, count, 8);
+THRESHREED_OFFSET(Tour, place, 16);
+
 /* ---- the proved functions, a session by value in and out */
 
 /* Opens a session on its first song. A refused one has no session to hand back: every call refuses what it gives. */
@@ -544,6 +575,16 @@ ThreshreedAnswered threshreed_apply_snapshot(ThreshreedSession session, const ui
 /* Reads the metrics. */
 ThreshreedMetered threshreed_metrics(ThreshreedSession session, const uint64_t *queue, size_t queue_len,
                                      const uint64_t *capture, size_t capture_len);
+
+/* Reads a tour's file to the list's front. `clips` has 32 words, a handle for each clip byte: slot * 2^32 + serial, and
+ * none where the serial is 0. `list_len` is in words, five a record. */
+ThreshreedTour threshreed_read_tour(const uint64_t *clips, const uint8_t *file, size_t file_len, uint64_t *list,
+                                    size_t list_len);
+
+/* Writes records as a tour's file to the output's front. `records_len` is in words, five a record; a remainder is not
+ * looked at. */
+ThreshreedTour threshreed_write_tour(const uint64_t *clips, const uint64_t *records, size_t records_len, uint8_t *out,
+                                     size_t out_len);
 
 /* ---- a session together with its stores */
 
@@ -791,6 +832,79 @@ static inline uint32_t tr_metrics(const Threshreed *t, ThreshreedMetrics *metric
     return r.refusal;
 }
 
+/* ---- a tour in a file
+ *
+ * What a capture kept is saved as a file of at most THRESHREED_TOUR_BYTES(count) bytes:
+ *
+ *     ThreshreedHandle clips[THRESHREED_SLOTS];
+ *     tr_stop_capture(&t, list, LEN(list), &count);
+ *     tr_clips(&t, clips);
+ *     tr_write_tour(clips, list, count * THRESHREED_WORDS, bytes, LEN(bytes), &length, NULL);
+ *     fwrite(bytes, 1, length, file);
+ *
+ * A session that has loaded the same clips in the same order replays it, at clock 0 to the same sound:
+ *
+ *     length = fread(bytes, 1, LEN(bytes), file);
+ *     tr_clips(&t, clips);
+ *     tr_read_tour(clips, bytes, length, list, LEN(list), &count, NULL);
+ *     tr_replay(&t, list, count * THRESHREED_WORDS, &report);
+ *
+ * The queue then holds all of it at once, and of stingers at most 16; the report tells what was not taken.
+ *
+ * In a file a clip is a byte, 0 to 31: its place in a list of handles, in which serial 0 is none and no other handle
+ * stands twice. So a file hangs on no serial: it is read to the handles of the session that is to play it. NULL for
+ * such a list is one of none. */
+
+/* A list of handles as the library takes it. */
+static inline void tr_clip_words(const ThreshreedHandle clips[THRESHREED_SLOTS], uint64_t words[THRESHREED_SLOTS])
+{
+    for (int i = 0; i < THRESHREED_SLOTS; i += 1) {
+        words[i] = clips ? (uint64_t)clips[i].slot << 32 | clips[i].serial : 0;
+    }
+}
+
+/* Writes records as a tour's file to the front of `out`. `records_len` is in words, THRESHREED_WORDS a record; a
+ * remainder is not looked at. Gains are kept bit for bit. `bytes` tells the file's length; what stands behind it stays.
+ * If it is refused, `place` tells which record is at fault, from 0; it is 0 where none is. */
+static inline uint32_t tr_write_tour(const ThreshreedHandle clips[THRESHREED_SLOTS], const uint64_t *records,
+                                     size_t records_len, uint8_t *out, size_t out_len, size_t *bytes, size_t *place)
+{
+    static const uint64_t no_words = 0;
+    static uint8_t no_bytes;
+    uint64_t words[THRESHREED_SLOTS];
+    tr_clip_words(clips, words);
+    ThreshreedTour r = threshreed_write_tour(words, records ? records : &no_words, records ? records_len : 0,
+                                             out ? out : &no_bytes, out ? out_len : 0);
+    if (r.refusal == 0 && bytes) {
+        *bytes = r.count;
+    }
+    if (r.refusal != 0 && place) {
+        *place = r.place;
+    }
+    return r.refusal;
+}
+
+/* Reads a tour's file, which ends where `file` does, to the list's front. `list_len` is in words, `records` tells how
+ * many were read; words past them stay as they were. If it is refused, `place` tells the first byte of the field at
+ * fault; it is 0 where none is. */
+static inline uint32_t tr_read_tour(const ThreshreedHandle clips[THRESHREED_SLOTS], const uint8_t *file,
+                                    size_t file_len, uint64_t *list, size_t list_len, size_t *records, size_t *place)
+{
+    static const uint8_t no_bytes = 0;
+    static uint64_t no_words;
+    uint64_t words[THRESHREED_SLOTS];
+    tr_clip_words(clips, words);
+    ThreshreedTour r = threshreed_read_tour(words, file ? file : &no_bytes, file ? file_len : 0,
+                                            list ? list : &no_words, list ? list_len : 0);
+    if (r.refusal == 0 && records) {
+        *records = r.count;
+    }
+    if (r.refusal != 0 && place) {
+        *place = r.place;
+    }
+    return r.refusal;
+}
+
 /* ---- what a host reads */
 
 /* THRESHREED_AS_TONO or THRESHREED_HOUSE. */
@@ -821,6 +935,16 @@ static inline float tr_master_gain(const Threshreed *t) { return t->session.mast
 
 /* The song that plays. */
 static inline ThreshreedHandle tr_song(const Threshreed *t) { return t->session.song; }
+
+/* The loaded clips, each at its slot, for a tour's file. When a capture has just stopped they are all that its records
+ * name: until then it holds them. */
+static inline void tr_clips(const Threshreed *t, ThreshreedHandle clips[THRESHREED_SLOTS])
+{
+    for (uint32_t slot = 0; slot < THRESHREED_SLOTS; slot += 1) {
+        clips[slot].slot = slot;
+        clips[slot].serial = (t->session.used >> slot & 1) == 1 ? t->session.clips[slot].serial : 0;
+    }
+}
 
 /* How many commands are queued. */
 static inline size_t tr_queue_depth(const Threshreed *t) { return t->session.queued; }
