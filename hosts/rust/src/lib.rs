@@ -27,10 +27,12 @@
 //!
 //! A block answers how often a loop came round in it, and [`Session::laps`] how often since the loop was set. A session
 //! plays as tono does, or in house mode, where a swap's tail is under the master gain and the song sounds where the
-//! playhead is ([`Mode`]). A driver that pulls is fed from a [`Ring`], into which frames are made ahead of time.
+//! playhead is ([`Mode`]). A driver that pulls is fed from a [`Ring`], into which frames are made ahead of time. What a
+//! capture kept is saved in a file ([`write_tour`]), which another session reads ([`read_tour`]) and replays.
 //!
-//! `examples/tour.rs` plays two minutes to a WAV file, `examples/told.rs` prints what each command did, and
-//! `examples/streaming.rs` walks through eight rooms with a pool for two.
+//! `examples/tour.rs` plays two minutes to a WAV file, `examples/told.rs` prints what each command did,
+//! `examples/streaming.rs` walks through eight rooms with a pool for two, and `examples/saved.rs` saves a walk and plays
+//! it again.
 
 #![no_std]
 
@@ -39,9 +41,11 @@ pub mod raw;
 mod refusal;
 mod ring;
 mod session;
+mod tour;
 
 pub use command::{At, ClockFrame, Command, Handle, LoopRange, Mode, Snapshot, SongFrame, State};
 pub use raw::{Metrics, Report};
 pub use refusal::Refusal;
 pub use ring::{Callback, Pump, Pumped, Ring};
 pub use session::{Session, Song, Stinger, Stores, WORDS};
+pub use tour::{Clips, TourFault, TourPlace, TourRefusal, read_tour, tour_bytes, write_tour};

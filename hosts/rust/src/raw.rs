@@ -257,6 +257,16 @@ pub struct Metered {
     pub session: Session,
 }
 
+/// The records read or the bytes written. If it is refused, the first byte of the field at fault, or which record of the
+/// list; 0 if it is none.
+#[repr(C)]
+#[derive(Clone, Copy, Debug, PartialEq, Eq)]
+pub struct Tour {
+    pub refusal: u32,
+    pub count: usize,
+    pub place: usize,
+}
+
 unsafe extern "C" {
     fn threshreed_open(
         settings: Settings,
@@ -402,6 +412,22 @@ unsafe extern "C" {
         capture: *const u64,
         capture_len: usize,
     ) -> Metered;
+
+    fn threshreed_read_tour(
+        clips: *const u64,
+        file: *const u8,
+        file_len: usize,
+        list: *mut u64,
+        list_len: usize,
+    ) -> Tour;
+
+    fn threshreed_write_tour(
+        clips: *const u64,
+        records: *const u64,
+        records_len: usize,
+        out: *mut u8,
+        out_len: usize,
+    ) -> Tour;
 }
 
 // Each `unsafe` below is one call of the library. It asks of a pointer that it is aligned and not null, stands for so many
@@ -668,6 +694,32 @@ pub fn metrics(session: Session, queue: &[u64], capture: &[u64]) -> Metered {
             queue.len(),
             capture.as_ptr(),
             capture.len(),
+        )
+    }
+}
+
+/// Reads a tour's file to the list's front. A clip is slot * 2^32 + serial; none if the serial is 0.
+pub fn read_tour(clips: &[u64; SLOTS], file: &[u8], list: &mut [u64]) -> Tour {
+    unsafe {
+        threshreed_read_tour(
+            clips.as_ptr(),
+            file.as_ptr(),
+            file.len(),
+            list.as_mut_ptr(),
+            list.len(),
+        )
+    }
+}
+
+/// Writes records as a tour's file to the output's front.
+pub fn write_tour(clips: &[u64; SLOTS], records: &[u64], out: &mut [u8]) -> Tour {
+    unsafe {
+        threshreed_write_tour(
+            clips.as_ptr(),
+            records.as_ptr(),
+            records.len(),
+            out.as_mut_ptr(),
+            out.len(),
         )
     }
 }

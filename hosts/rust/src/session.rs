@@ -7,6 +7,7 @@ use crate::command::{
 };
 use crate::raw::{self, Metrics, Report};
 use crate::refusal::Refusal;
+use crate::tour::Clips;
 
 /// Words of a record, in the queue, in the capture and in lists of them: clock frame, number, kind (1 to 10 in the order
 /// play, pause, stop, seek, transition, loop, clear loop, gain, swap, stinger), and two that the kind uses.
@@ -321,6 +322,7 @@ impl<'a> Session<'a> {
 
     /// Stops capture, copies its records to the list's front and answers how many: none if capture is off. A list of
     /// less than [`WORDS`] words for each is [too short](Refusal::ListTooShort), and capture goes on.
+    /// [`write_tour`](crate::write_tour) makes a file of them.
     ///
     /// ```
     /// use threshreed::{At, ClockFrame, Command, Song, Stores, WORDS};
@@ -496,6 +498,19 @@ impl<'a> Session<'a> {
     /// The song that plays.
     pub const fn song(&self) -> Handle {
         Handle(self.raw.song)
+    }
+
+    /// The loaded clips, each at its slot, for a tour's file ([`write_tour`](crate::write_tour)). When a capture has just
+    /// stopped they are all that its records name: until then it holds them.
+    pub fn clips(&self) -> Clips {
+        core::array::from_fn(|slot| {
+            let raw::Clip { serial, .. } = self.raw.clips[slot];
+            let clip = Handle(raw::Handle {
+                slot: slot as u32,
+                serial,
+            });
+            self.is_live(clip).then_some(clip)
+        })
     }
 
     /// How many commands are queued.

@@ -1,8 +1,9 @@
 //! The C header says of every struct and of every refusal what this crate says.
 
+use std::fmt::{Debug, Display};
 use std::mem::{offset_of, size_of};
 
-use threshreed::{Refusal, raw};
+use threshreed::{Refusal, TourFault, raw};
 
 const HEADER: &str = include_str!("../../c/threshreed.h");
 
@@ -65,13 +66,14 @@ fn the_header_asserts_the_layout_of_the_raw_types() {
         Stopped { refusal, copied, session }
         Snapped { refusal, snapshot, session }
         Metered { refusal, metrics, session }
+        Tour { refusal, count, place }
     };
     assert_eq!(expected, lines(&["THRESHREED_SIZE(", "THRESHREED_OFFSET("]));
     assert_eq!(size_of::<raw::Session>(), 2_040);
 }
 
-/// `NotWellFormed` as the header writes it.
-fn constant(refusal: Refusal) -> String {
+/// `1, NotWellFormed` with its words as the header writes it.
+fn row(number: u32, refusal: impl Debug + Display) -> (u32, String) {
     let mut name = String::new();
     for letter in format!("{refusal:?}").chars() {
         if letter.is_uppercase() && !name.is_empty() {
@@ -79,14 +81,15 @@ fn constant(refusal: Refusal) -> String {
         }
         name.push(letter.to_ascii_uppercase());
     }
-    name
+    (number, format!("X({number}, {name}, \"{refusal}\")"))
 }
 
 #[test]
 fn the_header_has_the_numbers_and_the_words_of_the_refusals() {
-    let expected: Vec<String> = Refusal::ALL
-        .iter()
-        .map(|&x| format!("X({}, {}, \"{x}\")", x.number(), constant(x)))
-        .collect();
+    let faults = TourFault::ALL.map(|x| row(x.number(), x));
+    let mut rows = Refusal::ALL.map(|x| row(x.number(), x)).to_vec();
+    rows.extend(faults);
+    rows.sort();
+    let expected: Vec<String> = rows.into_iter().map(|(_, line)| line).collect();
     assert_eq!(expected, lines(&["X("]));
 }
