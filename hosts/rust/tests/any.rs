@@ -8,7 +8,7 @@ use common::{ByHand, PAIR, RATE};
 use dice::Dice;
 use threshreed::{
     At, ClockFrame, Command, Handle, LoopRange, Mode, Refusal, Ring, Session, Snapshot, Song,
-    SongFrame, State, Stinger, Stores, WORDS, raw,
+    SongFrame, State, Stinger, Stores, WORDS, raw, read_tour, tour_bytes, write_tour,
 };
 
 impl Dice {
@@ -111,7 +111,9 @@ fn step(
         5 => session.start_capture(),
         6 => {
             let mut list = vec![0; dice.below(50) as usize];
-            session.stop_capture(&mut list).map(drop)
+            let copied = session.stop_capture(&mut list)?;
+            save(session, &list[..copied * WORDS]);
+            Ok(())
         }
         7 => {
             let snapshot = Snapshot {
@@ -153,6 +155,15 @@ fn step(
             Ok(())
         }
     }
+}
+
+/// What a capture kept can be saved as it stops, and is read back as it was.
+fn save(session: &Session, list: &[u64]) {
+    let mut file = vec![0; tour_bytes(list.len() / WORDS)];
+    let mut again = vec![0; list.len()];
+    let length = write_tour(&session.clips(), list, &mut file).unwrap();
+    let read = read_tour(&session.clips(), &file[..length], &mut again);
+    assert_eq!((read, &again[..]), (Ok(list.len() / WORDS), list));
 }
 
 /// A host that keeps its session never sees it refused as not well formed.

@@ -5,7 +5,7 @@ use std::thread;
 
 use threshreed::{
     At, ClockFrame, Command, LoopRange, Mode, Refusal, Ring, Song, SongFrame, Stinger, Stores,
-    WORDS,
+    WORDS, read_tour, tour_bytes, write_tour,
 };
 
 const RATE: u32 = 48_000;
@@ -60,7 +60,10 @@ fn every_call(mode: Mode) -> Result<(), Refusal> {
     }
     let mut list = [0; 32 * WORDS];
     let copied = session.stop_capture(&mut list)?;
-    session.replay(&list[..copied * WORDS])?;
+    let mut file = [0; tour_bytes(32)];
+    let length = write_tour(&session.clips(), &list[..copied * WORDS], &mut file).unwrap();
+    let read = read_tour(&session.clips(), &file[..length], &mut list).unwrap();
+    session.replay(&list[..read * WORDS])?;
     let snapshot = session.snapshot()?;
     session.apply_snapshot(snapshot)?;
     session.metrics().map(drop)
