@@ -7,7 +7,7 @@
 #include <stdlib.h>
 #include <string.h>
 
-/* In bytes: the head of a WAV file as tour.c writes it, and a frame. */
+/* In bytes: the head of a WAV file as wav.h writes it, and a frame. */
 enum { HEAD = 58, FRAME = 8 };
 
 static void need(bool holds, const char *fact)
