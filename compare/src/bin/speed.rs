@@ -4,7 +4,8 @@
 //! its rounds, and the table gives the median of several runs, and the least and the greatest ratio. The proved calls
 //! check the session and its stores every time; a block of no frames is that check alone, timed in the same round.
 //!
-//! A block through a ring is a pump of its frames and a drain of them, on both sides.
+//! A block through a ring is a pump of its frames and a drain of them, on both sides. A tour's file is ours alone: a second
+//! table, which `speed tours` makes without the first, has the median of many calls.
 //!
 //! `speed blocks` names the cases of one block. `speed N ours`, `check`, `tono` or `none` makes the one in line N, from
 //! 0, up to that call, which comes last, and measures nothing: the script `compare/instructions` does.
@@ -16,10 +17,14 @@ use std::time::Instant;
 use compare::runtime::AudioSource;
 use compare::runtime::ring::{Pump, Renderer, spsc};
 use compare::session::{At, Session, Song, Stinger, Submission};
-use threshreed::{ClockFrame, Command, Handle, LoopRange, Mode, Ring, SongFrame, WORDS};
+use threshreed::{
+    ClockFrame, Command, Handle, LoopRange, Mode, Ring, SongFrame, WORDS, raw, tour_bytes,
+};
 
 const RATE: u32 = 48_000;
 const QUEUE: usize = 4_096;
+/// The most commands of a tour's file.
+const TOUR: usize = 4_096;
 const RUNS: usize = 7;
 const ROUNDS: usize = 41;
 
@@ -534,6 +539,48 @@ fn load() -> Time {
     })
 }
 
+/// Files of the most commands: loops, which have the most bytes, and stingers, whose clips are looked up.
+fn tours() {
+    println!(
+        "| a tour of 4,096 | bytes | written, µs | ns a command | read, µs | ns a command |\n|---|---|---|---|---|---|"
+    );
+    tour("loops", |n| [n, n, 6, 0, 1]);
+    tour("stingers", |n| [n, n, 10, listed(n as usize % 32), 1]);
+}
+
+fn tour(name: &str, record: impl Fn(u64) -> [u64; WORDS]) {
+    let clips = std::array::from_fn(listed);
+    let records: Vec<[u64; WORDS]> = (0..TOUR as u64).map(record).collect();
+    let mut out = vec![0; tour_bytes(TOUR)];
+    let mut list = vec![0; TOUR * WORDS];
+    let words = records.as_flattened();
+    let bytes = raw::write_tour(&clips, words, &mut out).count;
+    let written = median_of(|| raw::write_tour(&clips, black_box(words), black_box(&mut out)));
+    let file = &out[..bytes];
+    let read = median_of(|| raw::read_tour(&clips, black_box(file), black_box(&mut list)));
+    assert!(list == words);
+    println!(
+        "| {name} | {bytes} | {:.1} | {:.1} | {:.1} | {:.1} |",
+        written / 1000.0,
+        written / TOUR as f64,
+        read / 1000.0,
+        read / TOUR as f64
+    );
+}
+
+/// The handle for a clip byte: all 32 are listed.
+fn listed(byte: usize) -> u64 {
+    (byte as u64) << 32 | (byte + 1) as u64
+}
+
+/// Nanoseconds of one call.
+fn median_of(mut call: impl FnMut() -> raw::Tour) -> f64 {
+    let calls = 0..RUNS * ROUNDS;
+    let mut times: Vec<f64> = calls.map(|_| nanoseconds(1, &mut call)).collect();
+    times.sort_by(f64::total_cmp);
+    times[times.len() / 2]
+}
+
 fn main() {
     let words: Vec<String> = env::args().skip(1).collect();
     let words: Vec<&str> = words.iter().map(String::as_str).collect();
@@ -548,12 +595,15 @@ fn main() {
             }
             line("a submission into a queue of 4,095", || run(5, submission));
             line("a load of a million frames", load);
+            println!();
+            tours();
         }
+        ["tours"] => tours(),
         ["blocks"] => cases.iter().for_each(|case| println!("{}", case.name())),
         [number, call] => {
             let number: usize = number.parse().expect("a case has a number");
             cases[number].count(call);
         }
-        _ => panic!("no word, `blocks`, or a case's number and a call"),
+        _ => panic!("no word, `tours`, `blocks`, or a case's number and a call"),
     }
 }
