@@ -6,8 +6,6 @@ mod dice;
 #[path = "common/format.rs"]
 mod format;
 
-use std::fmt::Debug;
-
 use dice::Dice;
 use format::{Handles, Part, Record, command, count, field, version};
 use threshreed::TourFault::{self, *};
@@ -28,7 +26,7 @@ const GUARD: usize = 8;
 
 /// Makes a call on a store of so many elements, and gives what it wrote: at the store's front, so many times `each` as the
 /// answer counts. A refused one writes nothing, and none writes behind that.
-fn lent<T: Copy + PartialEq + Debug>(
+fn lent<T: Copy + PartialEq>(
     length: usize,
     fill: T,
     each: usize,
@@ -54,7 +52,8 @@ fn lent<T: Copy + PartialEq + Debug>(
 fn read(clips: &Handles, file: &[u8], words: usize) -> Answer<Vec<Record>> {
     let fill = 0x9999_9999_9999_9999;
     let list = lent(words, fill, WORDS, |list| raw::read_tour(clips, file, list))?;
-    Ok(list.as_chunks().0.to_vec())
+    let records = list.chunks_exact(WORDS);
+    Ok(records.map(|x| x.try_into().unwrap()).collect())
 }
 
 /// Writes to an output of so many bytes.

@@ -42,7 +42,7 @@ impl Part {
 }
 
 fn is_none(handle: u64) -> bool {
-    handle % (1 << 32) == 0
+    handle as u32 == 0
 }
 
 /// Whether a handle is listed twice.
