@@ -725,7 +725,7 @@ static void saved(void)
     EXPECT(tr_open(&host.t, 48000, pair, LEN(pair), 48000, 8) == 0);
     EXPECT(tr_load_stinger(&host.t, old, LEN(old), 48000, &bell) == 0 && tr_start_capture(&host.t) == 0);
     EXPECT(tr_submit(&host.t, tr_play(), tr_now()) == 0);
-    EXPECT(tr_submit(&host.t, tr_stinger(bell, 0.5f), tr_at_clock(1)) == 0);
+    EXPECT(tr_submit(&host.t, tr_stinger(bell, 1.0f), tr_at_clock(1)) == 0);
     EXPECT(tr_stop_capture(&host.t, list, LEN(list), &count) == 0 && count == 2);
     tr_clips(&host.t, clips);
     EXPECT(clips[0].slot == 0 && clips[0].serial == 1 && clips[1].slot == 1 && clips[1].serial == bell.serial);
@@ -744,7 +744,7 @@ static void saved(void)
     EXPECT(tr_read_tour(clips, file, bytes, again, LEN(again), &count, NULL) == 0 && count == 2);
     EXPECT(again[8] == list[8] + 1 && tr_replay(&other.t, again, LEN(again), &report) == 0 && report.taken == 2);
     EXPECT(tr_block(&other.t, other.out, LEN(other.out), NULL) == 0);
-    EXPECT(memcmp(host.out, other.out, sizeof host.out) == 0 && host.out[2] == 0.25f + 0.35f);
+    EXPECT(memcmp(host.out, other.out, sizeof host.out) == 0 && host.out[2] == 0.25f + 0.7f);
 }
 
 /* NULL for a result that is not wanted. */
