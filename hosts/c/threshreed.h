@@ -842,14 +842,16 @@ static inline uint32_t tr_metrics(const Threshreed *t, ThreshreedMetrics *metric
  *     tr_write_tour(clips, list, count * THRESHREED_WORDS, bytes, LEN(bytes), &length, NULL);
  *     fwrite(bytes, 1, length, file);
  *
- * A session that has loaded the same clips in the same order replays it, at clock 0 to the same sound:
+ * A session that has loaded the same clips in the same order replays it:
  *
  *     length = fread(bytes, 1, LEN(bytes), file);
  *     tr_clips(&t, clips);
  *     tr_read_tour(clips, bytes, length, list, LEN(list), &count, NULL);
  *     tr_replay(&t, list, count * THRESHREED_WORDS, &report);
  *
- * The queue then holds all of it at once, and of stingers at most 16; the report tells what was not taken.
+ * The queue then holds all of it at once, and of stingers at most 16; the report tells what was not taken. At clock 0
+ * it is the same sound, if the capture ran from there on, no snapshot was applied, and no command was submitted for a
+ * clock frame that had passed.
  *
  * In a file a clip is a byte, 0 to 31: its place in a list of handles, in which serial 0 is none and no other handle
  * stands twice. So a file hangs on no serial: it is read to the handles of the session that is to play it. NULL for

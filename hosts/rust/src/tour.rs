@@ -80,8 +80,9 @@ pub fn write_tour(clips: &Clips, records: &[u64], out: &mut [u8]) -> Result<usiz
 /// Reads a tour's file, which ends where `file` does, to the list's front, and answers how many records of
 /// [`WORDS`](crate::WORDS) words there are; words past them stay. A refused call leaves the list as it was.
 ///
-/// [`Session::replay`](crate::Session::replay) queues all of them at once, at clock 0 to the same sound: as many as the
-/// queue holds, and of stingers at most 16.
+/// [`Session::replay`](crate::Session::replay) queues all of them at once: as many as the queue holds, and of stingers at
+/// most 16. At clock 0 they are the same sound, if the capture ran from there on, no snapshot was applied, and no command
+/// was submitted for a clock frame that had passed.
 ///
 /// ```
 /// use threshreed::{TourFault, TourPlace, read_tour};
