@@ -231,7 +231,8 @@ module _ (clips : List ℕ) (n : ℕ) (u : listedTwice clips ≡ false) where
     unfolding unknownTag
     no-other q at k t2 t3 =
         let z : p .at ≡ 0 → ⊥ = λ z. omega arith in
-        let x : true ≡ false = rw (ne-eqb (p .at) 0 z, t2, t3, k) at (q .tag) in
+        let s : leb 128 (tagOf f) ≡ false = k in
+        let x : true ≡ false = rw (ne-eqb (p .at) 0 z, t2, t3, s) at (q .tag) in
         never x
 
     tail-step : ((r : Progress) → 0 < r .at → r .count ≤ 4096 → weighed clips r (fieldsOf later) ≡ TourAnswer.Done n → Same r later)
