@@ -32,3 +32,4 @@ pub mod Heard
 pub mod Signs
 pub mod Hosts
 pub mod Tours
+pub mod Saves

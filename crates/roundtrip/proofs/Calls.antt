@@ -2,12 +2,12 @@
 use mathlib.Core.Path.{_≡_, refl, sym, ap, ap₂, _∙_}
 use mathlib.Core.Bool.{Bool, true, false, cond}
 use mathlib.Core.List.{List, [], _∷_, map}
-use Prim.Native.Nat.{ℕ, zero, suc, _+_, _*_, _/_, _<_, _≤_}
+use Prim.Native.Nat.{ℕ, _+_, _*_, _/_, _<_, _≤_}
 use native.Mathlib.Omega.{arith}
 use native.Mathlib.Nat.{zero-add}
 use borrow.Author.Tests.{le-leb, leb-true, le-ltb, ltb-false}
 use lib.ListN.{length, take, drop}
-use lib.Seq.{sets, sets-eq, length-take-le, getD-take, take-append-seam, drop-append-seam, drop-set-lt}
+use lib.Seq.{sets, sets-eq, take-append-seam, drop-append-seam, drop-set-lt}
 use lib.Dec.{leb, ltb}
 use Rattle.timeline.specs.declared.Row.{Row}
 use Rattle.timeline.specs.Store.{rowAt, putRow}
@@ -21,7 +21,7 @@ use Rattle.tourfile.specs.Reader.{start, weighed, fitted, readOf, rowsIn, putRo
 use Rattle.tourfile.specs.Writer.{rowsFrom, recordsOf, fileOf, recordsWeighed, written, writeOf, writeInto}
 use Rattle.tourfile.proofs.Judging.{not-done}
 use Rattle.tourfile.proofs.Turns.{records-count}
-use Rattle.tourfile.proofs.Writes.{records-length, done-count}
+use Rattle.tourfile.proofs.Writes.{records-length, records-take, done-count}
 use Rattle.roundtrip.specs.RoundTrip.{plain, WrittenThenRead, ReadThenWritten, ReadLeaves, WriteLeaves}
 use Rattle.roundtrip.proofs.Written.{fields-written}
 use Rattle.roundtrip.proofs.Back.{read-back, rows-back}
@@ -124,24 +124,6 @@ rows-puts [] l i h = refl
 rows-puts (x ∷ xs) l i h =
     let g = length-put l i x in
     ap₂ _∷_ (puts-before xs (putRow l i x) (i + 1) i (omega arith) ∙ row-same l i x (omega arith)) (rows-puts xs (putRow l i x) (i + 1) (omega arith))
-
-row-take : (ws : List ℕ) (i m : ℕ) → i * 5 + 5 ≤ m → rowAt (take m ws) i ≡ rowAt ws i
-unfolding rowAt
-row-take ws i m h =
-    rw (getD-take m ws (i * 5) 0 (omega arith), getD-take m ws (i * 5 + 1) 0 (omega arith), getD-take m ws (i * 5 + 2) 0 (omega arith), getD-take m ws (i * 5 + 3) 0 (omega arith), getD-take m ws (i * 5 + 4) 0 (omega arith))
-    refl
-
-rows-take : (k : ℕ) (ws : List ℕ) (i m : ℕ) → (i + k) * 5 ≤ m → rowsFrom (take m ws) i k ≡ rowsFrom ws i k
-unfolding rowsFrom
-rows-take zero ws i m h = refl
-rows-take (suc k) ws i m h = ap₂ _∷_ (row-take ws i m (omega arith)) (rows-take k ws (i + 1) m (omega arith))
-
-records-take : (ws : List ℕ) (n : ℕ) → n * 5 ≤ length ws → recordsOf (take (n * 5) ws) ≡ rowsFrom ws 0 n
-unfolding recordsOf
-records-take ws n h =
-    let l : length (take (n * 5) ws) ≡ n * 5 = length-take-le (n * 5) ws h in
-    let d : n * 5 / 5 ≡ n = omega arith in
-    rw (l, d) (rows-take n ws 0 (n * 5) (omega arith))
 
 -- the records that are answered stand at the front of the list
 read-front : (clips file list : List ℕ) (n : ℕ) → readOf clips file (length list) ≡ TourAnswer.Done n → recordsOf (take (n * 5) (readInto clips file list)) ≡ rowsIn clips (fieldsOf file)

@@ -1,13 +1,13 @@
 -- The writer's steps: the records from the front, their bytes one behind the other. Assumes nothing.
-use mathlib.Core.Path.{_≡_, refl, sym, ap, _∙_}
+use mathlib.Core.Path.{_≡_, refl, sym, ap, ap₂, _∙_}
 use mathlib.Core.Bool.{Bool, true, false, not, cond}
 use mathlib.Core.Logic.{⊎-elim}
 use mathlib.Core.List.{List, [], _∷_, _++_}
-use Prim.Native.Nat.{ℕ, zero, suc, _+_, _-_, _/_, _<_, _≤_, _^_}
+use Prim.Native.Nat.{ℕ, zero, suc, _+_, _-_, _*_, _/_, _<_, _≤_, _^_}
 use native.Mathlib.Omega.{arith}
 use borrow.Author.Tests.{eqb-true, ltb-true}
-use lib.ListN.{length, length-append}
-use lib.Seq.{sets}
+use lib.ListN.{length, take, length-append}
+use lib.Seq.{sets, length-take-le, getD-take}
 use lib.Dec.{ltb, eqb}
 use Rattle.counts.specs.Below.{within}
 use Rattle.counts.proofs.Below.{within-high}
@@ -43,6 +43,25 @@ rows-length ws i (suc k) = ap suc (rows-length ws (i + 1) k)
 pub records-length : (ws : List ℕ) → length (recordsOf ws) ≡ length ws / 5
 unfolding recordsOf
 records-length ws = rows-length ws 0 (length ws / 5)
+
+-- those at the front of a list are those of its first words
+row-take : (ws : List ℕ) (i m : ℕ) → i * 5 + 5 ≤ m → rowAt (take m ws) i ≡ rowAt ws i
+unfolding rowAt
+row-take ws i m h =
+    rw (getD-take m ws (i * 5) 0 (omega arith), getD-take m ws (i * 5 + 1) 0 (omega arith), getD-take m ws (i * 5 + 2) 0 (omega arith), getD-take m ws (i * 5 + 3) 0 (omega arith), getD-take m ws (i * 5 + 4) 0 (omega arith))
+    refl
+
+rows-take : (k : ℕ) (ws : List ℕ) (i m : ℕ) → (i + k) * 5 ≤ m → rowsFrom (take m ws) i k ≡ rowsFrom ws i k
+unfolding rowsFrom
+rows-take zero ws i m h = refl
+rows-take (suc k) ws i m h = ap₂ _∷_ (row-take ws i m (omega arith)) (rows-take k ws (i + 1) m (omega arith))
+
+pub records-take : (ws : List ℕ) (n : ℕ) → n * 5 ≤ length ws → recordsOf (take (n * 5) ws) ≡ rowsFrom ws 0 n
+unfolding recordsOf
+records-take ws n h =
+    let l : length (take (n * 5) ws) ≡ n * 5 = length-take-le (n * 5) ws h in
+    let d : n * 5 / 5 ≡ n = omega arith in
+    rw (l, d) (rows-take n ws 0 (n * 5) (omega arith))
 
 module _ (clips ws : List ℕ) (i n before : ℕ) (h : i < n) where
   -- one at fault gives the answer,
