@@ -865,6 +865,18 @@ static inline void tr_clip_words(const ThreshreedHandle clips[THRESHREED_SLOTS],
     }
 }
 
+/* Tells how many there are, or where the fault is, and answers its number. */
+static inline uint32_t tr_tour_told(ThreshreedTour r, size_t *count, size_t *place)
+{
+    if (r.refusal == 0 && count) {
+        *count = r.count;
+    }
+    if (r.refusal != 0 && place) {
+        *place = r.place;
+    }
+    return r.refusal;
+}
+
 /* Writes records as a tour's file to the front of `out`. `records_len` is in words, THRESHREED_WORDS a record; a
  * remainder is not looked at. Gains are kept bit for bit. `bytes` tells the file's length; what stands behind it stays.
  * If it is refused, `place` tells which record is at fault, from 0; it is 0 where none is. */
@@ -877,13 +889,7 @@ static inline uint32_t tr_write_tour(const ThreshreedHandle clips[THRESHREED_SLO
     tr_clip_words(clips, words);
     ThreshreedTour r = threshreed_write_tour(words, records ? records : &no_words, records ? records_len : 0,
                                              out ? out : &no_bytes, out ? out_len : 0);
-    if (r.refusal == 0 && bytes) {
-        *bytes = r.count;
-    }
-    if (r.refusal != 0 && place) {
-        *place = r.place;
-    }
-    return r.refusal;
+    return tr_tour_told(r, bytes, place);
 }
 
 /* Reads a tour's file, which ends where `file` does, to the list's front. `list_len` is in words, `records` tells how
@@ -898,13 +904,7 @@ static inline uint32_t tr_read_tour(const ThreshreedHandle clips[THRESHREED_SLOT
     tr_clip_words(clips, words);
     ThreshreedTour r = threshreed_read_tour(words, file ? file : &no_bytes, file ? file_len : 0,
                                             list ? list : &no_words, list ? list_len : 0);
-    if (r.refusal == 0 && records) {
-        *records = r.count;
-    }
-    if (r.refusal != 0 && place) {
-        *place = r.place;
-    }
-    return r.refusal;
+    return tr_tour_told(r, records, place);
 }
 
 /* ---- what a host reads */
