@@ -7,12 +7,7 @@ use lib.ListN.{length, getD, take, drop, take-append-drop}
 use lib.Seq.{take-add, drop-drop, drop-cons}
 use Rattle.fields.specs.Bytes.{two, four, eight, twoBytes, fourBytes, eightBytes}
 
--- two bytes at the front give their number back,
-pub two-back : (x : ℕ) (rest : List ℕ) → two (twoBytes x ++ rest) 0 ≡ x
-unfolding two
-two-back x rest = omega arith
-
--- and so do four and eight
+-- a number's bytes at the front give it back
 pub four-back : (x : ℕ) (rest : List ℕ) → four (fourBytes x ++ rest) 0 ≡ x
 unfolding four two fourBytes
 four-back x rest = omega arith
@@ -65,9 +60,6 @@ module _ (f : List ℕ) (small : (i : ℕ) → getD f i 0 < 256) where
   -- what is left behind a number
   pub two-left : (i : ℕ) → i + 2 ≤ length f → twoBytes (two f i) ++ drop (i + 2) f ≡ drop i f
   two-left i h = ap₂ (λ (x y : List ℕ). x ++ y) (two-part i h) (sym (drop-drop 2 i f)) ∙ take-append-drop 2 (drop i f)
-
-  four-left : (i : ℕ) → i + 4 ≤ length f → fourBytes (four f i) ++ drop (i + 4) f ≡ drop i f
-  four-left i h = rw (four-part i h, ← drop-drop 4 i f) (take-append-drop 4 (drop i f))
 
   pub eight-left : (i : ℕ) → i + 8 ≤ length f → eightBytes (eight f i) ++ drop (i + 8) f ≡ drop i f
   eight-left i h = rw (eight-part i h, ← drop-drop 8 i f) (take-append-drop 8 (drop i f))

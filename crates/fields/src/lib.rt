@@ -35,7 +35,7 @@ pub fn two(s: &[u8], i: usize) -> u16
 }
 
 /// The number of four bytes.
-pub fn four(s: &[u8], i: usize) -> u32
+fn four(s: &[u8], i: usize) -> u32
     requires { ⌜ i + 3 < 2 ^ 64 ⌝ }
     ensures { λ r. ⌜ r ≡ four (now (s .entry)) i ⌝ }
 {
@@ -72,7 +72,7 @@ pub fn put_two(out: &mut [u8], at: usize, x: u64)
 }
 
 /// Writes a number to four bytes.
-pub fn put_four(out: &mut [u8], at: usize, x: u64)
+fn put_four(out: &mut [u8], at: usize, x: u64)
     requires { ⌜ (at + 4 ≤ length (now out)) × (x < 2 ^ 32) ⌝ }
     ensures { λ _. ⌜ now (out .exit) ≡ sets (now (out .entry)) at (fourBytes x) ⌝ }
 {
@@ -137,7 +137,7 @@ pub fn is_listed(clips: &[u64; 32], b: u8) -> bool
 }
 
 /// The handle of a clip byte; past the list 0.
-pub fn handle_at(clips: &[u64; 32], b: u8) -> u64
+fn handle_at(clips: &[u64; 32], b: u8) -> u64
     ensures { λ r. ⌜ r ≡ handleAt (now (clips .entry)) b ⌝ }
 {
     let i = b as usize;

@@ -1,23 +1,22 @@
--- A whole field at the front of what is left reads as what is left does; what a field with no fault has passed. Assumes nothing.
+-- What a field with no fault has passed, and that it is whole. Assumes nothing.
 use mathlib.Core.Path.{_≡_, refl}
 use mathlib.Core.Logic.{_⊎_, ⊎-elim}
 use mathlib.Core.Bool.{Bool, true, false, _&&_, _||_, not}
 use mathlib.Core.List.{List}
 use Prim.Native.Nat.{ℕ, _+_, _-_, _<_, _≤_}
 use native.Mathlib.Omega.{arith}
-use borrow.Author.Tests.{eqb-true, leb-true, le-leb, ltb-false, not-false}
+use borrow.Author.Tests.{eqb-true, leb-true, not-false}
 use lib.ListN.{length, getD, take}
 use lib.Seq.{length-take-le, getD-take, take-all}
 use lib.Dec.{leb, ltb, eqb}
-use Rattle.counts.proofs.Truth.{and-true, and-r, or-none, two-ways}
+use Rattle.counts.proofs.Truth.{and-r, or-none, two-ways}
 use Rattle.tourfile.specs.declared.Judged.{Judged}
 use Rattle.tourfile.specs.declared.Progress.{Progress}
-use Rattle.fields.specs.Bytes.{two, four, eight}
-use Rattle.fields.specs.Field.{isWhole, pieceSize, tagOf, numberIn, kindIn, clipIn, isKind, carried, hasClip}
+use Rattle.fields.specs.Bytes.{two}
+use Rattle.fields.specs.Field.{isWhole, pieceSize, tagOf, kindIn, isKind, carried}
 use Rattle.tourfile.specs.Reader.{wrongFirst, unknownTag, wrongLength, otherVersion, unknownKind, notListed, notRising, tooMany, wrongCount, bytesAfter, judgedOf}
 use Rattle.tourfile.proofs.Judging.{passed}
 use Rattle.fields.proofs.Fields.{Field}
-use Rattle.fields.proofs.Parts.{clip-first}
 
 -- the tests that a field with no fault has passed
 pub record Passed (clips : List ℕ) (p : Progress) (more : Bool) (f : List ℕ) : Type 0 where
@@ -63,12 +62,6 @@ fine-passed clips p more f e =
 
 -- the lengths that are not wrong
 module _ (g : List ℕ) where
-  pub command-long : tagOf g ≡ 2 → wrongLength g ≡ false → 17 ≤ two g 1
-  unfolding wrongLength
-  command-long t e =
-      let h : ltb (two g 1) 17 || (isKind (kindIn g) && not (eqb (two g 1) (17 + carried (kindIn g)))) ≡ false = rw t at e in
-      ltb-false (two g 1) 17 (or-none (ltb (two g 1) 17) (isKind (kindIn g) && not (eqb (two g 1) (17 + carried (kindIn g)))) h .0)
-
   pub command-size : tagOf g ≡ 2 → wrongLength g ≡ false → isKind (kindIn g) ≡ true → two g 1 ≡ 17 + carried (kindIn g)
   unfolding wrongLength
   command-size t e k =
@@ -85,10 +78,6 @@ module _ (g : List ℕ) where
   unfolding wrongLength
   last-size t e = let h : not (eqb (two g 1) 2) ≡ false = rw t at e in eqb-true (two g 1) 2 (not-false (eqb (two g 1) 2) h)
 
-pub clip-some : (k : ℕ) → hasClip k ≡ true → 1 ≤ carried k
-unfolding carried
-clip-some k h = rw (clip-first k h) (omega arith)
-
 -- a field with no fault is whole where it stands
 pub piece-whole : (clips : List ℕ) (p : Progress) (more : Bool) (rest : List ℕ) → Passed clips p more (take (pieceSize rest) rest) → isWhole rest ≡ true
 unfolding pieceSize
@@ -104,72 +93,21 @@ pub piece-is : (rest : List ℕ) → isWhole rest ≡ true → pieceSize rest �
 unfolding pieceSize
 piece-is rest w = rw w refl
 
--- numbers whose bytes are the same
-module _ (f g : List ℕ) (i : ℕ) where
-  two-of : getD f i 0 ≡ getD g i 0 → getD f (i + 1) 0 ≡ getD g (i + 1) 0 → two f i ≡ two g i
-  unfolding two
-  two-of a b = rw (a, b) refl
-
-  four-of : two f i ≡ two g i → two f (i + 2) ≡ two g (i + 2) → four f i ≡ four g i
-  unfolding four
-  four-of a b = rw (a, b) refl
-
-  eight-of : four f i ≡ four g i → four f (i + 4) ≡ four g (i + 4) → eight f i ≡ eight g i
-  unfolding eight
-  eight-of a b = rw (a, b) refl
-
+-- a whole field at the front of what is left
 module _ (rest f : List ℕ) (w : isWhole rest ≡ true) (e : f ≡ take (3 + two rest 1) rest) where
-  pub size-within : 3 + two rest 1 ≤ length rest
+  size-within : 3 + two rest 1 ≤ length rest
   unfolding isWhole
   size-within = leb-true (3 + two rest 1) (length rest) (and-r (leb 3 (length rest)) (leb (3 + two rest 1) (length rest)) w)
-
-  pub length-front : length f ≡ 3 + two rest 1
-  length-front = rw e (length-take-le (3 + two rest 1) rest size-within)
 
   at-front : (i : ℕ) → i < 3 + two rest 1 → getD f i 0 ≡ getD rest i 0
   at-front i h = rw e (getD-take (3 + two rest 1) rest i 0 h)
 
-  two-at : (i : ℕ) → i + 2 ≤ 3 + two rest 1 → two f i ≡ two rest i
-  two-at i h = two-of f rest i (at-front i (omega arith)) (at-front (i + 1) (omega arith))
-
-  four-at : (i : ℕ) → i + 4 ≤ 3 + two rest 1 → four f i ≡ four rest i
-  four-at i h = four-of f rest i (two-at i (omega arith)) (two-at (i + 2) (omega arith))
-
-  eight-at : (i : ℕ) → i + 8 ≤ 3 + two rest 1 → eight f i ≡ eight rest i
-  eight-at i h = eight-of f rest i (four-at i (omega arith)) (four-at (i + 4) (omega arith))
-
-  -- tag and length,
-  pub tag-front : tagOf f ≡ tagOf rest
-  tag-front = at-front 0 (omega arith)
-
-  pub two-front : two f 1 ≡ two rest 1
-  two-front = two-at 1 (omega arith)
+  two-front : two f 1 ≡ two rest 1
+  unfolding two
+  two-front = rw (at-front 1 (omega arith), at-front 2 (omega arith)) refl
 
   pub field-at : Field f
-  field-at = let l = length-front in let t = two-front in record { head = omega arith; all = omega arith }
-
-  pub whole-front : isWhole f ≡ true
-  unfolding isWhole
-  whole-front = let h = field-at .head in let a = field-at .all in and-true (le-leb 3 (length f) h) (le-leb (3 + two f 1) (length f) (omega arith))
-
-  -- a command's kind and number,
-  pub kind-front : 17 ≤ two rest 1 → kindIn f ≡ kindIn rest
-  kind-front l = at-front 19 (omega arith)
-
-  pub number-front : 17 ≤ two rest 1 → numberIn f ≡ numberIn rest
-  number-front l = eight-at 11 (omega arith)
-
-  pub wrong-front : wrongLength f ≡ wrongLength rest
-  unfolding wrongLength
-  wrong-front = go (ltb (two rest 1) 17) refl
-    where
-      go : (b : Bool) → ltb (two rest 1) 17 ≡ b → wrongLength f ≡ wrongLength rest
-      go true h = rw (tag-front, two-front, h) refl
-      go false h = rw (tag-front, two-front, kind-front (ltb-false (two rest 1) 17 h)) refl
-
-  -- its clip byte, the version
-  pub clip-front : tagOf rest ≡ 2 → wrongLength rest ≡ false → isKind (kindIn rest) ≡ true → hasClip (kindIn rest) ≡ true → clipIn f ≡ clipIn rest
-  clip-front t g k h = let s = command-size rest t g k in let c = clip-some (kindIn rest) h in at-front 20 (omega arith)
-
-  pub version-front : tagOf rest ≡ 1 → wrongLength rest ≡ false → two f 3 ≡ two rest 3
-  version-front t g = let s = first-size rest t g in two-at 3 (omega arith)
+  field-at =
+      let l : length f ≡ 3 + two rest 1 = rw e (length-take-le (3 + two rest 1) rest size-within) in
+      let t = two-front in
+      record { head = omega arith; all = omega arith }

@@ -103,7 +103,7 @@ fn unknown_tag(p: Progress, f: &[u8]) -> bool
 }
 
 /// A command has at least 17 bytes, and what its kind carries if the kind is known; first and last have two.
-pub fn wrong_length(f: &[u8]) -> bool
+fn wrong_length(f: &[u8]) -> bool
     ensures { λ r. ⌜ r ≡ wrongLength (now (f .entry)) ⌝ }
 {
     let tag = fields::byte(f, 0);
@@ -117,7 +117,7 @@ pub fn wrong_length(f: &[u8]) -> bool
 }
 
 /// The version is 1.
-pub fn other_version(f: &[u8]) -> bool
+fn other_version(f: &[u8]) -> bool
     ensures { λ r. ⌜ r ≡ otherVersion (now (f .entry)) ⌝ }
 {
     let tag = fields::byte(f, 0);
@@ -126,7 +126,7 @@ pub fn other_version(f: &[u8]) -> bool
 }
 
 /// A command's kind is none of the ten.
-pub fn unknown_kind(f: &[u8]) -> bool
+fn unknown_kind(f: &[u8]) -> bool
     ensures { λ r. ⌜ r ≡ unknownKind (now (f .entry)) ⌝ }
 {
     let tag = fields::byte(f, 0);
@@ -469,7 +469,7 @@ fn tour_size(records: &[u64], n: usize) -> usize
 }
 
 /// Writes the first field.
-pub fn put_version(out: &mut [u8])
+fn put_version(out: &mut [u8])
     requires { ⌜ 5 ≤ length (now out) ⌝ }
     ensures { λ _. ⌜ now (out .exit) ≡ sets (now (out .entry)) 0 versionBytes ⌝ }
 {
@@ -481,7 +481,7 @@ pub fn put_version(out: &mut [u8])
 }
 
 /// Writes the last field.
-pub fn put_last(out: &mut [u8], at: usize, n: u64)
+fn put_last(out: &mut [u8], at: usize, n: u64)
     requires { ⌜ (at + 5 ≤ length (now out)) × (n < 65536) ⌝ }
     ensures { λ _. ⌜ now (out .exit) ≡ sets (now (out .entry)) at (lastBytes n) ⌝ }
 {
