@@ -28,9 +28,10 @@ use Rattle.tourfile.specs.Reader.{start, wrongFirst, unknownTag, otherVersion, 
 use Rattle.tourfile.specs.Writer.{headBytes, commandBytes, versionBytes, lastBytes, tailBytes, unlisted, late, recordJudgedOf, recordsWeighed, fileOf}
 use Rattle.tourfile.specs.Steps.{frontTurn}
 use Rattle.tourfile.proofs.Judging.{skip, not-done}
+use Rattle.tourfile.proofs.Passed.{Passed, fine-passed}
 use Rattle.tourfile.proofs.Turns.{weighed-front, records-count}
 use Rattle.roundtrip.specs.RoundTrip.{isByte, isSkipped}
-use Rattle.roundtrip.proofs.Front.{Passed, fine-passed, command-size, first-size, last-size, piece-whole, piece-is, field-at}
+use Rattle.roundtrip.proofs.Front.{command-size, first-size, last-size, piece-whole, piece-is, field-at}
 
 -- ---- bytes
 

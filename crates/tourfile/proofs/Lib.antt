@@ -1,4 +1,5 @@
 pub mod Judging
+pub mod Passed
 pub mod Turns
 pub mod Writes
 pub mod Answers

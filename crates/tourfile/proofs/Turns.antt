@@ -15,7 +15,7 @@ use Rattle.tourfile.specs.declared.Turn.{Turn}
 use Rattle.fields.specs.Field.{pieceSize, fieldsOf, isMore, tagOf, numberIn}
 use Rattle.tourfile.specs.Reader.{judgedOf, bytesAfter, behind, settled, turnOf, orElse, weighed, rowIn, rowsIn}
 use Rattle.tourfile.specs.Steps.{frontTurn}
-use Rattle.tourfile.proofs.Judging.{passed}
+use Rattle.tourfile.proofs.Passed.{fine-passed}
 use Rattle.fields.proofs.Fields.{piece-within, piece-some, front-length, fields-front, more-behind, is-piece, n-part, n-behind, part-whole}
 
 pub behind-at : (p : Progress) (f : List ℕ) → behind p f .at ≡ p .at + length f
@@ -95,22 +95,6 @@ pub front-is : (clips file : List ℕ) (p : Progress) (n : ℕ) → p .at < leng
 unfolding frontTurn
 front-is clips file p n h e = rw (part-whole (p .at) file, ← is-piece file (p .at) n h e) refl
 
--- a field with no fault has nothing behind it if it is the last
-fine-after : (clips : List ℕ) (p : Progress) (more : Bool) (f : List ℕ) → judgedOf clips p more f ≡ Judged.Fine → bytesAfter more f ≡ false
-unfolding judgedOf
-fine-after clips p more f e =
-    let s1 = passed _ _ _ e in
-    let s2 = passed _ _ _ (s1 .1) in
-    let s3 = passed _ _ _ (s2 .1) in
-    let s4 = passed _ _ _ (s3 .1) in
-    let s5 = passed _ _ _ (s4 .1) in
-    let s6 = passed _ _ _ (s5 .1) in
-    let s7 = passed _ _ _ (s6 .1) in
-    let s8 = passed _ _ _ (s7 .1) in
-    let s9 = passed _ _ _ (s8 .1) in
-    let s10 = passed _ _ _ (s9 .1) in
-    passed _ _ _ (s10 .1) .0
-
 -- an accepted file has as many records as the answer says
 pub records-count : (clips : List ℕ) (fs : List (List ℕ)) (p : Progress) (n : ℕ) → weighed clips p fs ≡ TourAnswer.Done n → p .count + length (rowsIn clips fs) ≡ n
 unfolding weighed rowsIn turnOf settled bytesAfter behind
@@ -139,7 +123,7 @@ records-count clips (f ∷ fs) p n e = go (λ q g. records-count clips fs q n g)
         → p .count + length (cond (eqb (tagOf f) 2) (rowIn clips f ∷ rowsIn clips fs) (rowsIn clips fs)) ≡ n
     pick ih true g j e =
         let t : tagOf f ≡ 3 = eqb-true (tagOf f) 3 g in
-        let m : isMore fs ≡ false = last (eqb (tagOf f) 3) (isMore fs) (fine-after clips p (isMore fs) f j) g in
+        let m : isMore fs ≡ false = last (eqb (tagOf f) 3) (isMore fs) (fine-passed clips p (isMore fs) f j .after) g in
         let z = none fs m in
         let c : p .count ≡ n = cc in
         rw t (omega arith)
