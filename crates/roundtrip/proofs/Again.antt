@@ -31,7 +31,7 @@ use Rattle.tourfile.proofs.Judging.{skip, not-done}
 use Rattle.tourfile.proofs.Passed.{Passed, fine-passed}
 use Rattle.tourfile.proofs.Turns.{weighed-front, records-count}
 use Rattle.roundtrip.specs.RoundTrip.{isByte, isSkipped}
-use Rattle.roundtrip.proofs.Front.{command-size, first-size, last-size, piece-whole, piece-is, field-at}
+use Rattle.roundtrip.proofs.Front.{command-size, short-size, piece-whole, piece-is, field-at}
 
 -- ---- bytes
 
@@ -70,13 +70,13 @@ module _ (f : List ℕ) (small : (i : ℕ) → getD f i 0 < 256) where
     unfolding otherVersion
     version-same t =
         let h : not (eqb (two f 3) 1) ≡ false = rw t at (q .version) in
-        rw t at (short-same 1 g (first-size f t (q .size)) (eqb-true (two f 3) 1 (not-false (eqb (two f 3) 1) h)))
+        rw t at (short-same 1 g (short-size f 1 refl refl t (q .size)) (eqb-true (two f 3) 1 (not-false (eqb (two f 3) 1) h)))
 
     last-same : tagOf f ≡ 3 → lastBytes (p .count) ≡ f
     unfolding wrongCount
     last-same t =
         let h : not (eqb (two f 3) (p .count)) ≡ false = rw t at (q .count) in
-        rw t at (short-same (p .count) g (last-size f t (q .size)) (eqb-true (two f 3) (p .count) (not-false (eqb (two f 3) (p .count)) h)))
+        rw t at (short-same (p .count) g (short-size f 3 refl refl t (q .size)) (eqb-true (two f 3) (p .count) (not-false (eqb (two f 3) (p .count)) h)))
 
   -- ---- a command
 

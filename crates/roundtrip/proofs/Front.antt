@@ -27,13 +27,10 @@ module _ (g : List ℕ) where
       let q : not (eqb (two g 1) (17 + carried (kindIn g))) ≡ false = rw k at r in
       eqb-true (two g 1) (17 + carried (kindIn g)) (not-false (eqb (two g 1) (17 + carried (kindIn g))) q)
 
-  pub first-size : tagOf g ≡ 1 → wrongLength g ≡ false → two g 1 ≡ 2
+  -- of version and count
+  pub short-size : (k : ℕ) → eqb k 2 ≡ false → eqb k 1 || eqb k 3 ≡ true → tagOf g ≡ k → wrongLength g ≡ false → two g 1 ≡ 2
   unfolding wrongLength
-  first-size t e = let h : not (eqb (two g 1) 2) ≡ false = rw t at e in eqb-true (two g 1) 2 (not-false (eqb (two g 1) 2) h)
-
-  pub last-size : tagOf g ≡ 3 → wrongLength g ≡ false → two g 1 ≡ 2
-  unfolding wrongLength
-  last-size t e = let h : not (eqb (two g 1) 2) ≡ false = rw t at e in eqb-true (two g 1) 2 (not-false (eqb (two g 1) 2) h)
+  short-size k n s t e = let h : not (eqb (two g 1) 2) ≡ false = rw (t, n, s) at e in eqb-true (two g 1) 2 (not-false (eqb (two g 1) 2) h)
 
 -- a field with no fault is whole where it stands
 pub piece-whole : (clips : List ℕ) (p : Progress) (more : Bool) (rest : List ℕ) → Passed clips p more (take (pieceSize rest) rest) → isWhole rest ≡ true

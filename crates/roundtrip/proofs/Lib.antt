@@ -4,3 +4,4 @@ pub mod Back
 pub mod Again
 pub mod Calls
 pub mod Places
+pub mod Lowest
