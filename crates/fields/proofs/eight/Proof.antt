@@ -1,3 +1,4 @@
+-- `eight` meets its contract.
 use Rattle.fields.specs.Bytes.{eight}
 use borrow.Author.Needs.{needs}
 use Rattle.fields.proofs.eight.Statement.{statement}

@@ -1,3 +1,4 @@
+-- `four` meets its contract.
 use Rattle.fields.specs.Bytes.{four}
 use borrow.Author.Needs.{needs}
 use Rattle.fields.proofs.four.Statement.{statement}

@@ -1,3 +1,4 @@
+-- `is_handle` meets its contract.
 use mathlib.Core.Path.{refl}
 use Rattle.fields.specs.Clips.{isHandle}
 use Rattle.fields.proofs.is_handle.Statement.{statement}

@@ -1,3 +1,4 @@
+-- `is_whole` meets its contract.
 use Rattle.fields.specs.Field.{isWhole}
 use borrow.Author.Needs.{needs}
 use Rattle.fields.proofs.is_whole.Statement.{statement}

@@ -1,3 +1,5 @@
+-- `two` meets its contract.
+use mathlib.Core.Path.{refl}
 use Rattle.fields.specs.Bytes.{two}
 use borrow.Author.Needs.{needs}
 use Rattle.fields.proofs.two.Statement.{statement}
@@ -26,7 +28,7 @@ add-result c = search needs
 
 returns : tie.Need-returns
 unfolding two
-returns c = cc
+returns c = rw (← c .before .byte .ensures, ← c .byte2 .ensures) refl
 
 pub two-spec : {M : Type 1} → statement M
 two-spec =

@@ -1,3 +1,4 @@
+-- `put_number` meets its contract.
 use Rattle.fields.specs.Bytes.{fourBytes, eightBytes}
 use Prim.Native.Nat.{_+_}
 use Rattle.fields.proofs.Writes.{two-writes}

@@ -1,3 +1,4 @@
+-- `put_start` meets its contract.
 use Rattle.fields.specs.Bytes.{twoBytes, fourBytes, eightBytes}
 use Prim.Native.Nat.{_+_}
 use Rattle.fields.proofs.Writes.{two-writes}
