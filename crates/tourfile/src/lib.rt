@@ -103,7 +103,7 @@ fn unknown_tag(p: Progress, f: &[u8]) -> bool
 }
 
 /// A command has at least 17 bytes, and what its kind carries if the kind is known; first and last have two.
-fn wrong_length(f: &[u8]) -> bool
+pub fn wrong_length(f: &[u8]) -> bool
     ensures { λ r. ⌜ r ≡ wrongLength (now (f .entry)) ⌝ }
 {
     let tag = fields::byte(f, 0);
@@ -117,7 +117,7 @@ fn wrong_length(f: &[u8]) -> bool
 }
 
 /// The version is 1.
-fn other_version(f: &[u8]) -> bool
+pub fn other_version(f: &[u8]) -> bool
     ensures { λ r. ⌜ r ≡ otherVersion (now (f .entry)) ⌝ }
 {
     let tag = fields::byte(f, 0);
@@ -126,7 +126,7 @@ fn other_version(f: &[u8]) -> bool
 }
 
 /// A command's kind is none of the ten.
-fn unknown_kind(f: &[u8]) -> bool
+pub fn unknown_kind(f: &[u8]) -> bool
     ensures { λ r. ⌜ r ≡ unknownKind (now (f .entry)) ⌝ }
 {
     let tag = fields::byte(f, 0);
@@ -147,7 +147,7 @@ fn not_listed(clips: &[u64; 32], f: &[u8]) -> bool
 }
 
 /// A command's number is not above the last one's; the first is free.
-fn not_rising(p: Progress, f: &[u8]) -> bool
+pub fn not_rising(p: Progress, f: &[u8]) -> bool
     ensures { λ r. ⌜ r ≡ notRising p (now (f .entry)) ⌝ }
 {
     let tag = fields::byte(f, 0);
@@ -221,7 +221,7 @@ fn judge(clips: &[u64; 32], p: Progress, more: bool, f: &[u8]) -> Judged
 }
 
 /// Behind a field.
-fn behind(p: Progress, f: &[u8]) -> Progress
+pub fn behind(p: Progress, f: &[u8]) -> Progress
     requires { ⌜ (p .count ≤ p .at) × (p .at + length (now f) < 2 ^ 64) × (0 < length (now f)) ⌝ }
     ensures { λ r. ⌜ r ≡ behind p (now (f .entry)) ⌝ }
 {
@@ -469,7 +469,7 @@ fn tour_size(records: &[u64], n: usize) -> usize
 }
 
 /// Writes the first field.
-fn put_version(out: &mut [u8])
+pub fn put_version(out: &mut [u8])
     requires { ⌜ 5 ≤ length (now out) ⌝ }
     ensures { λ _. ⌜ now (out .exit) ≡ sets (now (out .entry)) 0 versionBytes ⌝ }
 {
@@ -481,7 +481,7 @@ fn put_version(out: &mut [u8])
 }
 
 /// Writes the last field.
-fn put_last(out: &mut [u8], at: usize, n: u64)
+pub fn put_last(out: &mut [u8], at: usize, n: u64)
     requires { ⌜ (at + 5 ≤ length (now out)) × (n < 65536) ⌝ }
     ensures { λ _. ⌜ now (out .exit) ≡ sets (now (out .entry)) at (lastBytes n) ⌝ }
 {
