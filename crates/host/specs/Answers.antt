@@ -19,6 +19,8 @@ use Rattle.ring.specs.declared.DrainAnswer.{DrainAnswer}
 use Rattle.ring.specs.declared.Drained.{Drained}
 use Rattle.tourfile.specs.declared.TourAnswer.{TourAnswer}
 use Rattle.tourfile.specs.Answer.{faultNumber, SaysTour, gives, refuses}
+use Rattle.remains.specs.declared.SalvageAnswer.{SalvageAnswer}
+use Rattle.remains.specs.Salvage.{SaysSalvage, gives as givesSalvage, refuses as refusesSalvage}
 use Rattle.pump.specs.declared.PumpAnswer.{PumpAnswer}
 use Rattle.pump.specs.declared.Pumped.{Pumped}
 use Rattle.clips.specs.declared.LoadAnswer.{LoadAnswer}
@@ -45,6 +47,7 @@ use Rattle.host.specs.declared.HostBlocked.{HostBlocked}
 use Rattle.host.specs.declared.HostPumped.{HostPumped}
 use Rattle.host.specs.declared.HostDrained.{HostDrained}
 use Rattle.host.specs.declared.HostTour.{HostTour}
+use Rattle.host.specs.declared.HostSalvage.{HostSalvage}
 use Rattle.host.specs.declared.HostReplayed.{HostReplayed}
 use Rattle.host.specs.declared.HostStopped.{HostStopped}
 use Rattle.host.specs.declared.HostSnapped.{HostSnapped}
@@ -199,6 +202,19 @@ touredBy (TourAnswer.Refused x at) = toured (faultNumber x) 0 at
 -- what it says: a number of 0 is how many
 abbrev pub saysTourBy : HostTour → SaysTour
 saysTourBy r = cond (eqb (r .refusal) 0) (gives (r .count)) (refuses (r .refusal) (r .place))
+
+-- ---- kept commands, bytes and ranges, or a fault: a salvage
+
+abbrev pub salvaged : ℕ → ℕ → ℕ → ℕ → HostSalvage
+salvaged n k b r = record { refusal = n; kept = k; bytes = b; ranges = r }
+
+abbrev pub salvagedBy : SalvageAnswer → HostSalvage
+salvagedBy (SalvageAnswer.Done t) = salvaged 0 (t .kept) (t .bytes) (t .ranges)
+salvagedBy (SalvageAnswer.Refused x) = salvaged (faultNumber x) 0 0 0
+
+-- what it says: a number of 0 is done
+abbrev pub saysSalvageBy : HostSalvage → SaysSalvage
+saysSalvageBy r = cond (eqb (r .refusal) 0) (givesSalvage (r .kept) (r .bytes) (r .ranges)) (refusesSalvage (r .refusal))
 
 -- ---- a report: replay
 

@@ -23,6 +23,7 @@ use Rattle.ring.specs.declared.Drained.{Drained}
 use Rattle.ring.specs.Drain.{drainOf}
 use Rattle.tourfile.specs.Reader.{readOf, readInto}
 use Rattle.tourfile.specs.Writer.{recordsOf, writeOf, writeInto}
+use Rattle.remains.specs.Salvage.{salvageOf, salvageOut, salvageList}
 use Rattle.pump.specs.declared.Pumped.{Pumped}
 use Rattle.pump.specs.Pump.{pumpOf}
 use Rattle.control.specs.declared.StopAnswered.{StopAnswered}
@@ -40,13 +41,14 @@ use Rattle.host.specs.declared.HostBlocked.{HostBlocked}
 use Rattle.host.specs.declared.HostPumped.{HostPumped}
 use Rattle.host.specs.declared.HostDrained.{HostDrained}
 use Rattle.host.specs.declared.HostTour.{HostTour}
+use Rattle.host.specs.declared.HostSalvage.{HostSalvage}
 use Rattle.host.specs.declared.HostReplayed.{HostReplayed}
 use Rattle.host.specs.declared.HostStopped.{HostStopped}
 use Rattle.host.specs.declared.HostSnapped.{HostSnapped}
 use Rattle.host.specs.declared.HostMetrics.{HostMetrics}
 use Rattle.host.specs.Kept.{isKind, kindOf, sessionOf}
 use Rattle.host.specs.Arguments.{isSubmission, submissionOf, isAt, atOf, isSnapshot, snapshotOf}
-use Rattle.host.specs.Answers.{weighHost, unless, refused, answeredBy, loadRefused, loadedBy, openedBy, submitRefused, submittedBy, blockRefused, blockedBy, pumpRefused, pumpedBy, drainedBy, touredBy, replayRefused, replayedBy, stopRefused, stoppedBy, snapshotRefused, snappedBy, metricsRefused, meteredBy}
+use Rattle.host.specs.Answers.{weighHost, unless, refused, answeredBy, loadRefused, loadedBy, openedBy, submitRefused, submittedBy, blockRefused, blockedBy, pumpRefused, pumpedBy, drainedBy, touredBy, salvagedBy, replayRefused, replayedBy, stopRefused, stoppedBy, snapshotRefused, snappedBy, metricsRefused, meteredBy}
 
 -- answer and session; pool
 unfoldable pub openHost : Settings → List ℕ → List ℕ → List Float → List Float → ℕ → SongFrame → HostLoaded × List Float
@@ -106,6 +108,10 @@ readTourHost clips file list = (touredBy (readOf clips file (length list)), read
 -- answer; output
 unfoldable pub writeTourHost : List ℕ → List ℕ → List ℕ → HostTour × List ℕ
 writeTourHost clips records out = (touredBy (writeOf clips (recordsOf records) (length out)), writeInto clips (recordsOf records) out)
+
+-- answer; output and list
+unfoldable pub salvageHost : List ℕ → List ℕ → List ℕ → HostSalvage × List ℕ × List ℕ
+salvageHost file out list = (salvagedBy (salvageOf file (length out) (length list)), salvageOut file out (length list), salvageList file (length out) list)
 
 unfoldable pub startCaptureHost : HostSession → List ℕ → List ℕ → HostAnswered
 startCaptureHost h q c = unless (weighHost h q c true) (refused h) (answeredBy h (startCaptureOf (sessionOf h) q c))

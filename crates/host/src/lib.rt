@@ -7,8 +7,8 @@ ghost use lib.Ieee.{Float};
 ghost use Rattle.bank.specs.declared.Clip.{Clip};
 ghost use Rattle.host.specs.Kept.{isKind, kindOf, kindNumber, clipOf, clipNumbers, isState, stateOf, stateNumber, isFlag, flagOf, flagNumber, loopOf, loopNumbers, tailOf, tailNumbers, slotNamed, kindsOk, isSession, stageOf, sessionOf, hostOf};
 ghost use Rattle.host.specs.Arguments.{isSubmission, submissionOf, isAt, atOf, isSnapshot, snapshotOf, snapshotNumbers};
-ghost use Rattle.host.specs.Answers.{turned, weighHost, refused, answeredBy, loadRefused, loadedBy, openedBy, submitRefused, submittedBy, blockRefused, pumpRefused, pumpedBy, drainedBy, touredBy, replayRefused, replayedBy, stopRefused, stoppedBy, noSnapshot, snapshotRefused, snappedBy, noMetrics, metricsRefused, meteredBy};
-ghost use Rattle.host.specs.Calls.{openHost, loadHost, retireHost, submitHost, transitionHost, replayHost, blockHost, pumpHost, drainHost, readTourHost, writeTourHost, startCaptureHost, stopCaptureHost, snapshotHost, applyHost, metricsHost};
+ghost use Rattle.host.specs.Answers.{turned, weighHost, refused, answeredBy, loadRefused, loadedBy, openedBy, submitRefused, submittedBy, blockRefused, pumpRefused, pumpedBy, drainedBy, touredBy, salvagedBy, replayRefused, replayedBy, stopRefused, stoppedBy, noSnapshot, snapshotRefused, snappedBy, noMetrics, metricsRefused, meteredBy};
+ghost use Rattle.host.specs.Calls.{openHost, loadHost, retireHost, submitHost, transitionHost, replayHost, blockHost, pumpHost, drainHost, readTourHost, writeTourHost, salvageHost, startCaptureHost, stopCaptureHost, snapshotHost, applyHost, metricsHost};
 use bank::Bank;
 use bank::Clip;
 use bank::Kind;
@@ -37,6 +37,7 @@ use session::Answer;
 use session::Answered;
 use session::Desk;
 use session::Session;
+use remains::SalvageAnswer;
 use stage::Counters;
 use stage::Fade;
 use stage::Playhead;
@@ -195,6 +196,15 @@ pub struct HostTour {
     pub refusal: u32,
     pub count: usize,
     pub place: usize,
+}
+
+/// What a salvage gives: commands kept, the fresh file's bytes and ranges, or a fault's number.
+#[repr(C)]
+pub struct HostSalvage {
+    pub refusal: u32,
+    pub kept: usize,
+    pub bytes: usize,
+    pub ranges: usize,
 }
 
 #[repr(C)]
@@ -857,6 +867,25 @@ fn toured(a: TourAnswer) -> HostTour
     }
 }
 
+fn salvaged(a: SalvageAnswer) -> HostSalvage
+    ensures { λ r. ⌜ r ≡ salvagedBy a ⌝ }
+{
+    match a {
+        SalvageAnswer::Done(t) => HostSalvage {
+            refusal: 0,
+            kept: t.kept,
+            bytes: t.bytes,
+            ranges: t.ranges,
+        },
+        SalvageAnswer::Refused(x) => HostSalvage {
+            refusal: x.number(),
+            kept: 0,
+            bytes: 0,
+            ranges: 0,
+        },
+    }
+}
+
 fn replay_refused(number: u32, h: HostSession) -> HostReplayed
     ensures { λ r. ⌜ r ≡ replayRefused h number ⌝ }
 {
@@ -1233,6 +1262,15 @@ pub extern "C" fn threshreed_write_tour(
 {
     let a = tourfile::write_tour(clips, records, out);
     toured(a)
+}
+
+/// Salvages a damaged tour's file: the fresh one at the output's front, the ranges at the list's.
+#[no_mangle]
+pub extern "C" fn threshreed_salvage(file: &[u8], out: &mut [u8], list: &mut [u64]) -> HostSalvage
+    ensures { λ r. ⌜ _≡_ {A = HostSalvage × List ℕ × List ℕ} (r, now (out .exit), now (list .exit)) (salvageHost (now (file .entry)) (now (out .entry)) (now (list .entry))) ⌝ }
+{
+    let a = remains::salvage(file, out, list);
+    salvaged(a)
 }
 
 /// Starts capture, empty.
