@@ -14,7 +14,7 @@ use Rattle.fields.proofs.Fields.{piece-within, piece-some, front-length, part-w
 use Rattle.tourfile.specs.declared.Progress.{Progress}
 use Rattle.tourfile.specs.Reader.{notRising, behind}
 use Rattle.tourfile.proofs.Turns.{behind-at}
-use Rattle.remains.specs.Salvage.{isValid, isKept, isPassed, fieldAt, what, byteOn, past}
+use Rattle.remains.specs.Salvage.{isValid, isKept, isPassed, fieldAt, what, byteOn}
 use Rattle.remains.specs.Steps.{runEnd, next}
 
 -- what is done tells what stands

@@ -1,8 +1,8 @@
 -- The walk through the file, one range at a time. Assumes nothing.
 use Prim.Native.Nat.{ℕ, zero, suc, _+_, _-_, _<_, _≤_}
-use mathlib.Core.Path.{_≡_, refl, sym, ap, ap₂, _∙_}
+use mathlib.Core.Path.{_≡_, refl, sym, ap, _∙_}
 use mathlib.Core.Logic.{⊎-elim}
-use mathlib.Core.List.{List, [], _∷_, _++_}
+use mathlib.Core.List.{List, [], _∷_}
 use mathlib.Core.Bool.{Bool, true, false, _&&_, cond}
 use native.Mathlib.Omega.{arith}
 use native.Mathlib.Numerals.{add-one}
@@ -20,7 +20,7 @@ use Rattle.tourfile.proofs.Turns.{behind-at}
 use Rattle.remains.specs.declared.Range.{Range}
 use Rattle.remains.specs.Salvage.{fieldAt, what, byteOn, past, steps, before, joined, rangesOf, keptFields, laid, rangeWords}
 use Rattle.remains.specs.Steps.{runEnd, next}
-use Rattle.remains.proofs.Runs.{field-within, run-stop, run-on, next-run, next-field, next-at, next-kept}
+use Rattle.remains.proofs.Runs.{field-within, run-stop, run-on, next-run, next-field, next-kept}
 
 -- ---- steps
 

@@ -12,7 +12,6 @@ use Rattle.tourfile.specs.Answer.{faultNumber}
 use Rattle.tourfile.specs.Reader.{start, wrongLength, otherVersion, unknownKind, notRising, behind}
 use Rattle.tourfile.specs.Writer.{versionBytes, lastBytes}
 use Rattle.remains.specs.declared.Range.{Range}
-use Rattle.remains.specs.declared.Salvaged.{Salvaged}
 use Rattle.remains.specs.declared.SalvageAnswer.{SalvageAnswer}
 
 -- what is done with a part of the file

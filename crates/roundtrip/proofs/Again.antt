@@ -15,7 +15,7 @@ use Rattle.counts.proofs.Truth.{and-true, and-l, and-r, or-none, lt-or-le, neve
 use Rattle.timeline.specs.Record.{readable}
 use Rattle.fields.specs.Bytes.{two, four, twoBytes, eightBytes}
 use Rattle.fields.specs.Clips.{listedTwice, isListed, clipByte}
-use Rattle.fields.specs.Field.{pieceSize, fieldsOf, tagOf, frameIn, numberIn, kindIn, clipIn, isKind, firstPart, secondPart, partSize, carried, hasClip, partIn, partBytes}
+use Rattle.fields.specs.Field.{isWhole, pieceSize, fieldsOf, tagOf, frameIn, numberIn, kindIn, clipIn, isKind, firstPart, secondPart, partSize, carried, hasClip, partIn, partBytes}
 use Rattle.fields.proofs.Fields.{piece-some, front-length, fields-none, fields-front, Field}
 use Rattle.fields.proofs.Numbers.{two-part, four-small, two-left, eight-left, part}
 use Rattle.fields.proofs.Places.{clip-back}
@@ -31,7 +31,7 @@ use Rattle.tourfile.proofs.Judging.{skip, not-done}
 use Rattle.tourfile.proofs.Passed.{Passed, fine-passed}
 use Rattle.tourfile.proofs.Turns.{weighed-front, records-count}
 use Rattle.roundtrip.specs.RoundTrip.{isByte, isSkipped}
-use Rattle.roundtrip.proofs.Front.{command-size, short-size, piece-whole, piece-is, field-at}
+use Rattle.roundtrip.proofs.Front.{command-size, short-size, front-field}
 
 -- ---- bytes
 
@@ -192,9 +192,7 @@ module _ (clips : List ℕ) (n : ℕ) (u : listedTwice clips ≡ false) where
 
     module _ (q : Passed clips p more f) where
       is-field : Field f
-      is-field =
-          let w = piece-whole clips p more rest q in
-          field-at rest f w (ap (λ (k : ℕ). take k rest) (piece-is rest w))
+      is-field = front-field rest (not-false (isWhole f) (q .whole))
 
       -- a command in front
       command-step : tagOf f ≡ 2 → Same (record { at = p .at + length f; count = p .count + 1; last = numberIn f }) later → Same p rest

@@ -144,11 +144,11 @@ module _ (clips : List ℕ) (p : Progress) (more : Bool) (x : Row) (h : 0 < p .a
 
 -- ---- the version and the count
 
-fine-version : (clips : List ℕ) (more : Bool) → judgedOf clips start more versionBytes ≡ Judged.Fine
+pub fine-version : (clips : List ℕ) (more : Bool) → judgedOf clips start more versionBytes ≡ Judged.Fine
 unfolding judgedOf first isWhole two wrongFirst unknownTag wrongLength otherVersion unknownKind notListed notRising tooMany wrongCount bytesAfter
 fine-version clips more = refl
 
-fine-last : (clips : List ℕ) (p : Progress) → 0 < p .at → judgedOf clips p false (lastBytes (p .count)) ≡ Judged.Fine
+pub fine-last : (clips : List ℕ) (p : Progress) → 0 < p .at → judgedOf clips p false (lastBytes (p .count)) ≡ Judged.Fine
 unfolding judgedOf first isWhole two wrongFirst unknownTag wrongLength otherVersion unknownKind notListed notRising tooMany wrongCount bytesAfter
 fine-last clips p h =
     let n : p .at ≡ 0 → ⊥ = λ z. omega arith in

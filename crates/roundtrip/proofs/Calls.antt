@@ -1,7 +1,7 @@
 -- The promises of the calls: what one leaves is lent to the other. Assumes nothing.
 use mathlib.Core.Path.{_≡_, refl, sym, ap, ap₂, _∙_}
 use mathlib.Core.Bool.{Bool, true, false, cond}
-use mathlib.Core.List.{List, [], _∷_, map}
+use mathlib.Core.List.{List, [], _∷_, _++_, map}
 use Prim.Native.Nat.{ℕ, _+_, _*_, _/_, _<_, _≤_}
 use native.Mathlib.Omega.{arith}
 use native.Mathlib.Nat.{zero-add}
@@ -30,7 +30,7 @@ use Rattle.roundtrip.proofs.Again.{file-same, records-fine}
 -- ---- answers
 
 -- what says how many is done,
-says-done : (a : TourAnswer) (n : ℕ) → saysTour a ≡ gives n → a ≡ TourAnswer.Done n
+pub says-done : (a : TourAnswer) (n : ℕ) → saysTour a ≡ gives n → a ≡ TourAnswer.Done n
 says-done (TourAnswer.Done m) n e = let z : m ≡ n = cc in ap TourAnswer.Done z
 says-done (TourAnswer.Refused x i) n e = let z : _≡_ {A = ℕ} 0 1 = cc in absurd (omega arith)
 
@@ -45,7 +45,7 @@ pub record Read (clips file : List ℕ) (room n : ℕ) : Type 0 where
   pub fine : weighed clips start (fieldsOf file) ≡ TourAnswer.Done n
   pub fits : n ≤ room / 5
 
-done-read : (clips file : List ℕ) (room n : ℕ) → readOf clips file room ≡ TourAnswer.Done n → Read clips file room n
+pub done-read : (clips file : List ℕ) (room n : ℕ) → readOf clips file room ≡ TourAnswer.Done n → Read clips file room n
 unfolding readOf
 done-read clips file room n e = go (listedTwice clips) refl (weighed clips start (fieldsOf file)) refl e
   where
@@ -58,7 +58,7 @@ done-read clips file room n e = go (listedTwice clips) refl (weighed clips start
     go false t (TourAnswer.Done m) w e = let f = fits m (leb m (room / 5)) refl e in record { once = t; fine = w ∙ ap TourAnswer.Done (f .0); fits = f .1 }
     go false t (TourAnswer.Refused x i) w e = absurd (not-done e)
 
-read-done : (clips file : List ℕ) (room n : ℕ) → Read clips file room n → readOf clips file room ≡ TourAnswer.Done n
+pub read-done : (clips file : List ℕ) (room n : ℕ) → Read clips file room n → readOf clips file room ≡ TourAnswer.Done n
 unfolding readOf
 read-done clips file room n r = rw (r .once, r .fine, le-leb n (room / 5) (r .fits)) refl
 
@@ -98,13 +98,23 @@ wrote-done clips xs room n w =
 
 -- ---- bytes
 
+-- what is written at the front of a store, and what stands behind it
+module _ (xs l : List ℕ) (h : length xs ≤ length l) where
+  at-front : sets l 0 xs ≡ xs ++ drop (length xs) l
+  at-front = sets-eq xs l 0 (rw (zero-add (length xs)) h) ∙ rw (zero-add (length xs)) refl
+
+  pub take-front : take (length xs) (sets l 0 xs) ≡ xs
+  take-front = rw at-front (take-append-seam xs (drop (length xs) l))
+
+  pub drop-front : drop (length xs) (sets l 0 xs) ≡ drop (length xs) l
+  drop-front = rw at-front (drop-append-seam xs (drop (length xs) l))
+
 -- what is answered stands at the front of the output
 written-front : (clips : List ℕ) (xs : List Row) (out : List ℕ) (n : ℕ) → writeOf clips xs (length out) ≡ TourAnswer.Done n → take n (writeInto clips xs out) ≡ fileOf clips xs
 unfolding writeInto
 written-front clips xs out n e =
     let w = done-wrote clips xs (length out) n e in
-    let r = rw (w .size) at (w .fits) in
-    rw (e, w .size, sets-eq (fileOf clips xs) out 0 (rw (zero-add (length (fileOf clips xs))) r)) (take-append-seam (fileOf clips xs) (drop (0 + length (fileOf clips xs)) out))
+    rw (e, w .size) (take-front (fileOf clips xs) out (rw (w .size) at (w .fits)))
 
 -- ---- records
 
@@ -126,7 +136,7 @@ rows-puts (x ∷ xs) l i h =
     ap₂ _∷_ (puts-before xs (putRow l i x) (i + 1) i (omega arith) ∙ row-same l i x (omega arith)) (rows-puts xs (putRow l i x) (i + 1) (omega arith))
 
 -- the records that are answered stand at the front of the list
-read-front : (clips file list : List ℕ) (n : ℕ) → readOf clips file (length list) ≡ TourAnswer.Done n → recordsOf (take (n * 5) (readInto clips file list)) ≡ rowsIn clips (fieldsOf file)
+pub read-front : (clips file list : List ℕ) (n : ℕ) → readOf clips file (length list) ≡ TourAnswer.Done n → recordsOf (take (n * 5) (readInto clips file list)) ≡ rowsIn clips (fieldsOf file)
 unfolding readInto
 read-front clips file list n e =
     let r = done-read clips file (length list) n e in
@@ -188,7 +198,6 @@ write-leaves clips ws out = record {
   refused = λ number at s. says-left (writeOf clips (recordsOf ws) (length out)) number at (sets out 0 (fileOf clips (recordsOf ws))) out s;
   accepted = λ n s. let e = says-done (writeOf clips (recordsOf ws) (length out)) n s in
       let w = done-wrote clips (recordsOf ws) (length out) n e in
-      let r = rw (w .size) at (w .fits) in
       let m : n * 1 ≡ length (fileOf clips (recordsOf ws)) = let z = w .size in omega arith in
-      rw (e, m, sets-eq (fileOf clips (recordsOf ws)) out 0 (rw (zero-add (length (fileOf clips (recordsOf ws)))) r), zero-add (length (fileOf clips (recordsOf ws)))) (drop-append-seam (fileOf clips (recordsOf ws)) (drop (length (fileOf clips (recordsOf ws))) out));
+      rw (e, m) (drop-front (fileOf clips (recordsOf ws)) out (rw (w .size) at (w .fits)));
 }

@@ -1,20 +1,18 @@
 -- Fields with no fault: their lengths, and that they are whole where they stand. Assumes nothing.
-use mathlib.Core.Path.{_≡_, refl}
-use mathlib.Core.Logic.{_⊎_, ⊎-elim}
-use mathlib.Core.Bool.{Bool, true, false, _&&_, _||_, not}
+use mathlib.Core.Path.{_≡_, refl, ap}
+use mathlib.Core.Logic.{⊎-elim}
+use mathlib.Core.Bool.{true, false, _&&_, _||_, not}
 use mathlib.Core.List.{List}
-use Prim.Native.Nat.{ℕ, _+_, _-_, _<_, _≤_}
+use Prim.Native.Nat.{ℕ, _+_, _<_, _≤_}
 use native.Mathlib.Omega.{arith}
 use borrow.Author.Tests.{eqb-true, leb-true, not-false}
 use lib.ListN.{length, getD, take}
 use lib.Seq.{length-take-le, getD-take, take-all}
 use lib.Dec.{leb, ltb, eqb}
 use Rattle.counts.proofs.Truth.{and-r, or-none, two-ways}
-use Rattle.tourfile.specs.declared.Progress.{Progress}
 use Rattle.fields.specs.Bytes.{two}
 use Rattle.fields.specs.Field.{isWhole, pieceSize, tagOf, kindIn, isKind, carried}
 use Rattle.tourfile.specs.Reader.{wrongLength}
-use Rattle.tourfile.proofs.Passed.{Passed}
 use Rattle.fields.proofs.Fields.{Field}
 
 -- the lengths that are not wrong
@@ -32,18 +30,7 @@ module _ (g : List ℕ) where
   unfolding wrongLength
   short-size k n s t e = let h : not (eqb (two g 1) 2) ≡ false = rw (t, n, s) at e in eqb-true (two g 1) 2 (not-false (eqb (two g 1) 2) h)
 
--- a field with no fault is whole where it stands
-pub piece-whole : (clips : List ℕ) (p : Progress) (more : Bool) (rest : List ℕ) → Passed clips p more (take (pieceSize rest) rest) → isWhole rest ≡ true
-unfolding pieceSize
-piece-whole clips p more rest q = ⊎-elim (λ (e : isWhole rest ≡ true). e) (λ (e : isWhole rest ≡ false). cut e) (two-ways (isWhole rest))
-  where
-    cut : isWhole rest ≡ false → isWhole rest ≡ true
-    cut e =
-        let n : pieceSize rest ≡ length rest = rw e refl in
-        let t : take (pieceSize rest) rest ≡ rest = take-all (pieceSize rest) rest (omega arith) in
-        rw t at (not-false (isWhole (take (pieceSize rest) rest)) (q .whole))
-
-pub piece-is : (rest : List ℕ) → isWhole rest ≡ true → pieceSize rest ≡ 3 + two rest 1
+piece-is : (rest : List ℕ) → isWhole rest ≡ true → pieceSize rest ≡ 3 + two rest 1
 unfolding pieceSize
 piece-is rest w = rw w refl
 
@@ -60,8 +47,22 @@ module _ (rest f : List ℕ) (w : isWhole rest ≡ true) (e : f ≡ take (3 + tw
   unfolding two
   two-front = rw (at-front 1 (omega arith), at-front 2 (omega arith)) refl
 
-  pub field-at : Field f
+  field-at : Field f
   field-at =
       let l : length f ≡ 3 + two rest 1 = rw e (length-take-le (3 + two rest 1) rest size-within) in
       let t = two-front in
       record { head = omega arith; all = omega arith }
+
+-- a whole field is whole where it stands
+pub front-field : (rest : List ℕ) → isWhole (take (pieceSize rest) rest) ≡ true → Field (take (pieceSize rest) rest)
+unfolding pieceSize
+front-field rest w = ⊎-elim (λ (e : isWhole rest ≡ true). there e) (λ (e : isWhole rest ≡ false). there (cut e)) (two-ways (isWhole rest))
+  where
+    there : isWhole rest ≡ true → Field (take (pieceSize rest) rest)
+    there e = field-at rest (take (pieceSize rest) rest) e (ap (λ (n : ℕ). take n rest) (piece-is rest e))
+
+    cut : isWhole rest ≡ false → isWhole rest ≡ true
+    cut e =
+        let n : pieceSize rest ≡ length rest = rw e refl in
+        let t : take (pieceSize rest) rest ≡ rest = take-all (pieceSize rest) rest (omega arith) in
+        rw t at w

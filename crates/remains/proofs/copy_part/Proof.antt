@@ -1,7 +1,7 @@
 -- `copy_part` meets its contract.
-use mathlib.Core.Path.{_≡_, refl, sym, ap, _∙_}
+use mathlib.Core.Path.{_≡_, refl, _∙_}
 use native.Mathlib.Omega.{arith}
-use Prim.Native.Nat.{_+_, _-_, _*_, _≤_}
+use Prim.Native.Nat.{_+_, _-_, _≤_}
 use mathlib.Core.List.{[]}
 use lib.ListN.{length, take, drop, length-drop, drop-of-length-le}
 use lib.Seq.{sets, length-take-le}

@@ -9,7 +9,6 @@ use Rattle.remains.specs.Salvage.{what, rangesOf, keptFields, laid}
 use Rattle.remains.specs.Steps.{next}
 use Rattle.remains.proofs.Runs.{Inside, next-at, next-kept, next-other, next-inside}
 use Rattle.remains.proofs.Walk.{from, from-start, from-none, length-next, fields-other, count-kept, size-kept}
-use borrow.Author.Needs.{needs}
 use Rattle.remains.proofs.measure.Statement.{statement}
 use Rattle.remains.proofs.measure.Tie as tie
 

@@ -1,9 +1,8 @@
 -- `put_range` meets its contract.
-use mathlib.Core.Path.{_≡_, refl, sym, ap, _∙_}
+use mathlib.Core.Path.{_≡_, refl}
 use Prim.Native.Nat.{suc, _+_}
 use native.Mathlib.Omega.{arith}
 use native.Mathlib.Numerals.{add-one}
-use native.Mathlib.Nat.{add-zero}
 use lib.ListN.{length-set}
 use borrow.Author.Needs.{needs}
 use Rattle.remains.proofs.put_range.Statement.{statement}

@@ -1,0 +1,12 @@
+pub mod Places
+pub mod Cover
+pub mod Apart
+pub mod Answers
+pub mod Leaves
+pub mod Accepted
+pub mod Stands
+pub mod Beside
+pub mod Kept
+pub mod Accept
+pub mod Again
+pub mod Cut

@@ -1,0 +1,1 @@
+//! What a salvage promises of a file, damaged or not. No code.
