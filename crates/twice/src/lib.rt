@@ -12,6 +12,7 @@ use control::StopAnswered;
 use counts::Handle;
 use counts::SongFrame;
 use pump::Pumped;
+use remains::SalvageAnswer;
 use ring::Drained;
 use ring::SampleRing;
 use session::Answered;
@@ -40,6 +41,8 @@ pub struct PumpTwice(pub Pumped, pub Pumped);
 pub struct DrainTwice(pub Drained, pub Drained);
 
 pub struct TourTwice(pub TourAnswer, pub TourAnswer);
+
+pub struct SalvageTwice(pub SalvageAnswer, pub SalvageAnswer);
 
 pub struct StopTwice(pub StopAnswered, pub StopAnswered);
 
@@ -331,4 +334,20 @@ pub fn write_tour(
     let one = tourfile::write_tour(clips, records, out);
     let other = tourfile::write_tour(clips2, records2, out2);
     TourTwice(one, other)
+}
+
+pub fn salvage(
+    file: &[u8],
+    out: &mut [u8],
+    list: &mut [u64],
+    file2: &[u8],
+    out2: &mut [u8],
+    list2: &mut [u64],
+) -> SalvageTwice
+    requires { ⌜ (now file ≡ now file2) × (now out ≡ now out2) × (now list ≡ now list2) ⌝ }
+    ensures { λ r. ⌜ (r .0 ≡ r .1) × (now (out .exit) ≡ now (out2 .exit)) × (now (list .exit) ≡ now (list2 .exit)) ⌝ }
+{
+    let one = remains::salvage(file, out, list);
+    let other = remains::salvage(file2, out2, list2);
+    SalvageTwice(one, other)
 }
