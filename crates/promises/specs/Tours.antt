@@ -9,14 +9,15 @@ use Rattle.timeline.specs.Record.{handleWord}
 use Rattle.tourfile.specs.Answer.{saysTour, refuses, gives as givesTour}
 use Rattle.tourfile.specs.Reader.{readOf, readInto}
 use Rattle.tourfile.specs.Writer.{recordsOf, fileOf, writeOf, writeInto}
+use Rattle.remains.specs.Salvage.{salvageOf, saysSalvage, salvageOut, salvageList}
 use Rattle.bank.specs.declared.Bank.{Bank}
 use Rattle.bank.specs.Slots.{usedAt, clipIn, handleOf}
 use Rattle.session.specs.declared.Session.{Session}
 use Rattle.session.specs.Answer.{gives}
 use Rattle.control.specs.Answer.{saysStop}
 use Rattle.control.specs.Capture.{stopCaptureOf}
-use Rattle.host.specs.Answers.{saysTourBy}
-use Rattle.host.specs.Calls.{readTourHost, writeTourHost}
+use Rattle.host.specs.Answers.{saysTourBy, saysSalvageBy}
+use Rattle.host.specs.Calls.{readTourHost, writeTourHost, salvageHost}
 
 -- each says and leaves what its call does
 pub record HostTours : Type 0 where
@@ -24,6 +25,9 @@ pub record HostTours : Type 0 where
       → (saysTourBy (readTourHost clips file list .0) ≡ saysTour (readOf clips file (length list))) × (readTourHost clips file list .1 ≡ readInto clips file list)
   pub writes : (clips records out : List ℕ)
       → (saysTourBy (writeTourHost clips records out .0) ≡ saysTour (writeOf clips (recordsOf records) (length out))) × (writeTourHost clips records out .1 ≡ writeInto clips (recordsOf records) out)
+  pub salvages : (file out list : List ℕ)
+      → (saysSalvageBy (salvageHost file out list .0) ≡ saysSalvage (salvageOf file (length out) (length list)))
+      × (salvageHost file out list .1 ≡ salvageOut file out (length list)) × (salvageHost file out list .2 ≡ salvageList file (length out) list)
 
 -- the word of a slot: the handle of its clip, none where it is free
 unfoldable pub slotWord : Bank → ℕ → ℕ
