@@ -17,6 +17,26 @@ use Rattle.tourfile.proofs.Turns.{behind-at}
 use Rattle.remains.specs.Salvage.{isValid, isKept, isPassed, fieldAt, what, byteOn}
 use Rattle.remains.specs.Steps.{runEnd, next}
 
+-- what is not valid is dropped, and so is what is neither kept nor passed over
+module _ (file : List ℕ) (p : Progress) (f : List ℕ) (g : f ≡ fieldAt file (p .at)) where
+  pub what-invalid : isValid f ≡ false → what file p ≡ 3
+  unfolding what isKept isPassed
+  what-invalid v = rw (← g, v) refl
+
+  module _ (v : isValid f ≡ true) where
+    pub what-rises : eqb (tagOf f) 2 && not (notRising p f) ≡ true → what file p ≡ 1
+    unfolding what isKept
+    what-rises k = rw (← g, v, k) refl
+
+    module _ (k : eqb (tagOf f) 2 && not (notRising p f) ≡ false) where
+      pub what-other : eqb (tagOf f) 1 || eqb (tagOf f) 3 || leb 128 (tagOf f) ≡ true → what file p ≡ 2
+      unfolding what isKept isPassed
+      what-other i = rw (← g, v, k, i) refl
+
+      pub what-none : eqb (tagOf f) 1 || eqb (tagOf f) 3 || leb 128 (tagOf f) ≡ false → what file p ≡ 3
+      unfolding what isKept isPassed
+      what-none i = rw (← g, v, k, i) refl
+
 -- what is done tells what stands
 module _ (file : List ℕ) (p : Progress) where
   pub what-kept : isKept p (fieldAt file (p .at)) ≡ true → what file p ≡ 1
@@ -26,10 +46,6 @@ module _ (file : List ℕ) (p : Progress) where
   pub what-passed : isKept p (fieldAt file (p .at)) ≡ false → isPassed (fieldAt file (p .at)) ≡ true → what file p ≡ 2
   unfolding what
   what-passed k i = rw (k, i) refl
-
-  pub what-dropped : isKept p (fieldAt file (p .at)) ≡ false → isPassed (fieldAt file (p .at)) ≡ false → what file p ≡ 3
-  unfolding what
-  what-dropped k i = rw (k, i) refl
 
   pub kept-what : what file p ≡ 1 → isKept p (fieldAt file (p .at)) ≡ true
   unfolding what

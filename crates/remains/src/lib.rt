@@ -1,10 +1,14 @@
 //! What remains of a damaged tour: every byte of its file is kept, passed over or dropped, and what is kept makes a fresh file.
 ghost use mathlib.Core.Path.{_≡_};
 ghost use Prim.Native.Nat.{_+_, _*_, _<_, _≤_};
+ghost use mathlib.Core.Bool.{_&&_, _||_, not};
 ghost use mathlib.Core.List.{[], _∷_};
 ghost use lib.ListN.{length, take, drop};
 ghost use lib.Seq.{sets};
-ghost use Rattle.remains.specs.Salvage.{noClip, isValid, isKept, isPassed, what, rangesOf, keptFields, laid, fresh, rangeWords, salvageOf, salvageOut, salvageList};
+ghost use lib.Dec.{leb, eqb};
+ghost use Rattle.fields.specs.Field.{tagOf};
+ghost use Rattle.tourfile.specs.Reader.{notRising};
+ghost use Rattle.remains.specs.Salvage.{noClip, isValid, what, rangesOf, keptFields, laid, fresh, rangeWords, salvageOf, salvageOut, salvageList};
 ghost use Rattle.remains.specs.Steps.{runEnd, next, tallyOf};
 use tourfile::Fault;
 use tourfile::Progress;
@@ -60,23 +64,21 @@ fn is_valid(f: &[u8]) -> bool
     whole & (!wrong & (!other & (!unknown & !none)))
 }
 
-/// A valid command whose number is above the last kept one's.
-fn is_kept(p: Progress, f: &[u8]) -> bool
-    ensures { λ r. ⌜ r ≡ isKept p (now (f .entry)) ⌝ }
+/// A command whose number is above the last kept one's.
+fn rises(p: Progress, f: &[u8]) -> bool
+    ensures { λ r. ⌜ r ≡ (eqb (tagOf (now (f .entry))) 2 && not (notRising p (now (f .entry)))) ⌝ }
 {
-    let valid = is_valid(f);
     let tag = fields::byte(f, 0);
     let low = tourfile::not_rising(p, f);
-    valid & ((tag == 2) & !low)
+    (tag == 2) & !low
 }
 
-/// A valid first or last field, or one that readers skip.
-fn is_passed(f: &[u8]) -> bool
-    ensures { λ r. ⌜ r ≡ isPassed (now (f .entry)) ⌝ }
+/// A first or last field, or one that readers skip.
+fn is_other(f: &[u8]) -> bool
+    ensures { λ r. ⌜ r ≡ (eqb (tagOf (now (f .entry))) 1 || eqb (tagOf (now (f .entry))) 3 || leb 128 (tagOf (now (f .entry)))) ⌝ }
 {
-    let valid = is_valid(f);
     let tag = fields::byte(f, 0);
-    valid & ((tag == 1) | (tag == 3) | (128 <= tag))
+    (tag == 1) | (tag == 3) | (128 <= tag)
 }
 
 /// What is done at a place: 1 kept, 2 passed over, 3 dropped.
@@ -88,10 +90,13 @@ fn what_at(file: &[u8], p: Progress) -> u64
     let rest = &file[at..];
     let n = fields::piece_size(rest);
     let f = &rest[..n];
-    if is_kept(p, f) {
+    if !is_valid(f) {
+        return 3;
+    }
+    if rises(p, f) {
         return 1;
     }
-    if is_passed(f) {
+    if is_other(f) {
         return 2;
     }
     3
@@ -120,11 +125,11 @@ fn run_end(file: &[u8], p: Progress) -> usize
 }
 
 /// Behind the range that begins at a place: a whole field, or a run of dropped bytes.
-fn next_place(file: &[u8], p: Progress) -> Progress
-    requires { ⌜ (p .count ≤ p .at) × (p .at < length (now file)) ⌝ }
+fn next_place(file: &[u8], p: Progress, w: u64) -> Progress
+    requires { ⌜ (p .count ≤ p .at) × (p .at < length (now file)) × (w ≡ what (now file) p) ⌝ }
     ensures { λ r. ⌜ r ≡ next (now (file .entry)) p ⌝ }
 {
-    if what_at(file, p) == 3 {
+    if w == 3 {
         return Progress {
             at: run_end(file, p),
             count: p.count,
@@ -151,7 +156,7 @@ fn measure(file: &[u8]) -> Tally
     let mut ranges: usize = 0;
     while p.at < file.len() {
         let w = what_at(file, p);
-        let q = next_place(file, p);
+        let q = next_place(file, p, w);
         let from = p.at;
         let to = q.at;
         if w == 1 {
@@ -197,7 +202,7 @@ fn put_kept(file: &[u8], out: &mut [u8]) -> usize
     let mut o: usize = 5;
     while p.at < file.len() {
         let w = what_at(file, p);
-        let q = next_place(file, p);
+        let q = next_place(file, p, w);
         let from = p.at;
         let n = q.at - from;
         if w == 1 {
@@ -234,7 +239,7 @@ fn put_ranges(file: &[u8], list: &mut [u64])
     let mut k: usize = 0;
     while p.at < file.len() {
         let w = what_at(file, p);
-        let q = next_place(file, p);
+        let q = next_place(file, p, w);
         let from = p.at as u64;
         let to = q.at as u64;
         put_range(list, k, w, from, to);

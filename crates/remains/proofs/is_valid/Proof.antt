@@ -23,8 +23,13 @@ no-clip-requires c κs = search needs
 returns : tie.Need-returns
 unfolding isValid
 returns c =
-    rw (← c .before .before .before .before .is-whole .ensures, ← c .before .before .before .wrong-length .ensures, ← c .before .before .other-version .ensures,
-    ← c .before .unknown-kind .ensures, ← c .no-clip .ensures) refl
+    rw (
+      ← c .before .before .before .before .is-whole .ensures,
+      ← c .before .before .before .wrong-length .ensures,
+      ← c .before .before .other-version .ensures,
+      ← c .before .unknown-kind .ensures,
+      ← c .no-clip .ensures,
+    ) refl
 
 pub is-valid-spec : {M : Type 1} → statement M
 is-valid-spec =

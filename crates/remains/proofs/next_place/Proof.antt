@@ -9,16 +9,13 @@ use borrow.Author.Needs.{needs}
 use Rattle.remains.proofs.next_place.Statement.{statement}
 use Rattle.remains.proofs.next_place.Tie as tie
 
-what-at-requires : tie.Need-what-at-requires
-what-at-requires c κs = search needs
-
 run-end-requires : tie.Need-run-end-requires
 run-end-requires c κs = search needs
 
 returns : tie.Need-returns
 returns c =
-    let a = c .before .before .before .before .args in
-    rw (c .run-end .ensures) (sym (next-run (a .file .now) (a .p) (sym (c .before .before .what-at .ensures) ∙ c .before .if1 .taken)))
+    let a = c .before .before .before .args in
+    rw (c .run-end .ensures) (sym (next-run (a .file .now) (a .p) (sym (c .before .before .before .pre .2) ∙ c .before .if1 .taken)))
 
 sub-rest : tie.Need-sub-rest
 sub-rest c = search needs
@@ -37,25 +34,24 @@ slice-aggregate-f c = sym (length-take-le _ _ (rw (c .before .piece-size .ensure
 
 behind-requires : tie.Need-behind-requires
 behind-requires c κs =
-    let a = c .before .before .before .before .before .before .args in
-    let h = c .before .before .before .before .before .before .pre .1 in
+    let a = c .before .before .before .before .before .args in
+    let h = c .before .before .before .before .before .pre .1 in
     let f = piece-at (a .file .now) (a .p .at) (c .before .piece-size .result) (c .before .piece-size .ensures) in
     let w = field-within (a .file .now) (a .p .at) h in
     let l = w .1 in
-    (c .before .before .before .before .before .before .pre .0, rw f (omega arith), rw f (w .0))
+    (c .before .before .before .before .before .pre .0, rw f (omega arith), rw f (w .0))
 
 returns-2 : tie.Need-returns-2
 returns-2 c =
-    let a = c .before .before .before .before .before .before .before .args in
+    let a = c .before .before .before .before .before .before .args in
     let f = piece-at (a .file .now) (a .p .at) (c .before .before .piece-size .result) (c .before .before .piece-size .ensures) in
     let n = c .before .before .before .before .if1 .left in
-    c .behind .ensures ∙ ap (behind (a .p)) f ∙ sym (next-field (a .file .now) (a .p) (λ z. n (c .before .before .before .before .before .what-at .ensures ∙ z)))
+    c .behind .ensures ∙ ap (behind (a .p)) f ∙ sym (next-field (a .file .now) (a .p) (λ z. n (c .before .before .before .before .before .before .pre .2 ∙ z)))
 
 pub next-place-spec : {M : Type 1} → statement M
 next-place-spec =
     tie.close
     (tie.spec
-    what-at-requires
     run-end-requires
     returns
     sub-rest

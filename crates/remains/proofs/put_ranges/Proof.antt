@@ -25,7 +25,7 @@ what-at-requires : tie.Need-what-at-requires Inv-loop μ-loop
 what-at-requires c κs = c .before .before .loop .inv .0 .1
 
 next-place-requires : tie.Need-next-place-requires Inv-loop μ-loop
-next-place-requires c κs = (c .before .before .before .loop .inv .0 .0, c .before .if1 .taken)
+next-place-requires c κs = (c .before .before .before .loop .inv .0 .0, c .before .if1 .taken, c .what-at .ensures)
 
 put-range-requires : tie.Need-put-range-requires Inv-loop μ-loop
 put-range-requires c κs =
