@@ -89,11 +89,11 @@ before-other r (q ∷ rs) e = rw e refl
 
 other-before : (r q : Range) (rs : List Range) → eqb (q .what) 3 ≡ false → before r (q ∷ rs) ≡ r ∷ q ∷ rs
 unfolding before
-other-before r q rs e = rw e (go (eqb (r .what) 3))
+other-before r q rs e = rw e (go (eqb (r .what) 3) _ _)
   where
-    go : (b : Bool) → cond (b && false) (record { what = 3; from = r .from; to = q .to } ∷ rs) (r ∷ q ∷ rs) ≡ r ∷ q ∷ rs
-    go true = refl
-    go false = refl
+    go : (b : Bool) (x y : List Range) → cond (b && false) x y ≡ y
+    go true x y = refl
+    go false x y = refl
 
 -- the range that begins at a place
 abbrev pub range : List ℕ → Progress → Range
