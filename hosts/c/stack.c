@@ -26,7 +26,8 @@ static ThreshreedReport report;
 static ThreshreedRing ring = {500, 500};
 static size_t copied, made, taken;
 static uint64_t passes;
-static uint8_t file[THRESHREED_TOUR_BYTES(64)];
+static uint8_t file[THRESHREED_TOUR_BYTES(64)], fresh[THRESHREED_SALVAGE_BYTES(sizeof file)];
+static uint64_t ranges[THRESHREED_SALVAGE_WORDS(sizeof file)];
 static size_t bytes;
 static Threshreed t;
 
@@ -49,6 +50,7 @@ CALL(start_capture, tr_start_capture(&t))
 CALL(stop_capture, tr_stop_capture(&t, list, LEN(list), &copied))
 CALL(write_tour, tr_write_tour(listed, list, copied * THRESHREED_WORDS, file, LEN(file), &bytes, NULL))
 CALL(read_tour, tr_read_tour(listed, file, bytes, list, LEN(list), &copied, NULL))
+CALL(salvage, tr_salvage(file, bytes, fresh, LEN(fresh), ranges, LEN(ranges), NULL))
 CALL(take_snapshot, tr_snapshot(&t, &snapshot))
 CALL(apply_snapshot, tr_apply_snapshot(&t, snapshot))
 CALL(read_metrics, tr_metrics(&t, &metrics))
@@ -132,6 +134,7 @@ int main(void)
     tr_clips(&t, listed);
     measure("write_tour", write_tour, 1);
     measure("read_tour", read_tour, 1);
+    measure("salvage", salvage, 1);
     measure("replay", replay, 1);
     measure("pump", pump, 1);
     measure("drain", drain, 1);

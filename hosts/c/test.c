@@ -1,5 +1,5 @@
 /* The header's own part: the session and the stores that it keeps, what it reads, the refusals' words, NULL where
- * nothing is lent or wanted; and files of tours, each refusal by its number and its place. */
+ * nothing is lent or wanted; files of tours, each refusal by its number and its place; and what is salvaged of them. */
 #include <math.h>
 #include <stdio.h>
 #include <stdlib.h>
@@ -496,6 +496,7 @@ enum { COMMANDS = 4096, BYTES = THRESHREED_TOUR_BYTES(COMMANDS + 1) };
 #define COMMAND(length, number, kind) "\2" length "\0\7\0\0\0\0\0\0\0" number "\0\0\0\0\0\0\0" kind
 #define PLAY(number) COMMAND("\x11", number, "\1")
 #define SWAP(number, clip) COMMAND("\x12", number, "\x9" clip)
+#define STINGER(number, clip) COMMAND("\x16", number, "\xA" clip "\0\0\0\0")
 
 /* The only clip that these files list, as byte 3. */
 static const ThreshreedHandle listed[THRESHREED_SLOTS] = {[3] = {30, 7}};
@@ -747,6 +748,155 @@ static void saved(void)
     EXPECT(memcmp(host.out, other.out, sizeof host.out) == 0 && host.out[2] == 0.25f + 0.7f);
 }
 
+/* ---- salvage */
+
+static uint8_t fresh[BYTES];
+static uint64_t ranges[2 * COMMANDS * THRESHREED_RANGE_WORDS];
+
+/* A salvage into an output of so many bytes and a list of so many words: 0 or a number, with the counts in `told`. A
+ * refused one leaves both and tells nothing; an accepted one leaves what stands behind its file and its ranges. */
+static uint32_t salvaging(const char *file, size_t length, size_t bytes, size_t words, ThreshreedSalvage *told)
+{
+    const ThreshreedSalvage none = {99, 0, 0, 0};
+    memset(fresh, 9, sizeof fresh);
+    memset(ranges, 9, sizeof ranges);
+    *told = none;
+    uint32_t refusal = tr_salvage((const uint8_t *)file, length, fresh, bytes, ranges, words, told);
+    size_t written = told->ranges * THRESHREED_RANGE_WORDS;
+    EXPECT(told->refusal == (refusal == 0 ? 0 : 99) && told->bytes <= bytes && written <= words);
+    EXPECT((told->bytes == 0) == (refusal != 0) && (told->kept == 0 || refusal == 0));
+    EXPECT(filled_bytes(fresh + told->bytes, LEN(fresh) - told->bytes, 9));
+    EXPECT(filled_words(ranges + written, LEN(ranges) - written, UINT64_C(0x0909090909090909)));
+    return refusal;
+}
+
+/* A range of the list. */
+static bool ranged(size_t n, uint64_t what, uint64_t from, uint64_t to)
+{
+    const uint64_t *range = ranges + n * THRESHREED_RANGE_WORDS;
+    return range[0] == what && range[1] == from && range[2] == to;
+}
+
+/* Damaged files, the fresh ones of the commands that are kept, and of each range what was done and how many bytes. */
+static const struct {
+    const char *file;
+    size_t length;
+    const char *fresh;
+    size_t bytes;
+    const char *ranges;
+} damaged[] = {
+#define DAMAGED(file, commands, kept, ranges) \
+    {file, sizeof file - 1, VERSION commands COUNT(kept), sizeof commands + 9, ranges}
+#define K "\1"
+#define P "\2"
+#define D "\3"
+    DAMAGED("", "", "\0", ""),
+    DAMAGED("\x9", "", "\0", D "\1"),
+    DAMAGED(VERSION COUNT("\0"), "", "\0", P "\5" P "\5"),
+    /* Whole; cut in a command, in its head, in the last field. */
+    DAMAGED(VERSION PLAY("\5") PLAY("\6") COUNT("\2"), PLAY("\5") PLAY("\6"), "\2", P "\5" K "\x14" K "\x14" P "\5"),
+    DAMAGED(VERSION PLAY("\5") "\2\x11\0\7", PLAY("\5"), "\1", P "\5" K "\x14" D "\4"),
+    DAMAGED(VERSION PLAY("\5") "\2\x11", PLAY("\5"), "\1", P "\5" K "\x14" D "\2"),
+    DAMAGED(VERSION PLAY("\5") "\3\2\0\1", PLAY("\5"), "\1", P "\5" K "\x14" D "\4"),
+    /* First and last fields anywhere, whatever the count; of another version or length they are none. */
+    DAMAGED(COUNT("\7") VERSION PLAY("\5") VERSION, PLAY("\5"), "\1", P "\5" P "\5" K "\x14" P "\5"),
+    DAMAGED("\1\2\0\2\0" PLAY("\5"), PLAY("\5"), "\1", D "\5" K "\x14"),
+    DAMAGED("\1\2\0\1\1" PLAY("\5"), PLAY("\5"), "\1", D "\5" K "\x14"),
+    DAMAGED("\1\3\0\1\0\0" PLAY("\5"), PLAY("\5"), "\1", D "\6" K "\x14"),
+    DAMAGED("\3\1\0\1" PLAY("\5"), PLAY("\5"), "\1", D "\4" K "\x14"),
+    /* What is skipped hides what is in it. */
+    DAMAGED("\x80\0\0" "\xFF\x14\0" PLAY("\5") PLAY("\6"), PLAY("\6"), "\1", P "\3" P "\x17" K "\x14"),
+    DAMAGED("\xFF\x15\0" PLAY("\5"), PLAY("\5"), "\1", D "\3" K "\x14"),
+    DAMAGED("\x80\0\1" PLAY("\5"), PLAY("\5"), "\1", D "\3" K "\x14"),
+    /* Numbers that do not rise, the first being free; then those above the last one kept. */
+    DAMAGED(PLAY("\5") PLAY("\5") PLAY("\4") PLAY("\6"), PLAY("\5") PLAY("\6"), "\2", K "\x14" D "\x28" K "\x14"),
+    DAMAGED(PLAY("\0") PLAY("\1"), PLAY("\0") PLAY("\1"), "\2", K "\x14" K "\x14"),
+    /* A kind that is none, another kind's length, clip bytes 31 and 32. */
+    DAMAGED(COMMAND("\x11", "\1", "\0"), "", "\0", D "\x14"),
+    DAMAGED(COMMAND("\x11", "\1", "\xB"), "", "\0", D "\x14"),
+    DAMAGED(COMMAND("\x11", "\1", "\x9") "\x1F", "", "\0", D "\x15"),
+    DAMAGED(SWAP("\1", "\x1F"), SWAP("\1", "\x1F"), "\1", K "\x15"),
+    DAMAGED(SWAP("\1", "\x20"), "", "\0", D "\x15"),
+    DAMAGED(STINGER("\1", "\x1F"), STINGER("\1", "\x1F"), "\1", K "\x19"),
+    DAMAGED(STINGER("\1", "\x20"), "", "\0", D "\x19"),
+    /* The most ranges that so many bytes have. */
+    DAMAGED("\0\x80\0\0" "\0\x80\0\0" "\0", "", "\0", D "\1" P "\3" D "\1" P "\3" D "\1"),
+#undef D
+#undef P
+#undef K
+#undef DAMAGED
+};
+
+static void salvaged_files(void)
+{
+    ThreshreedHandle all[THRESHREED_SLOTS];
+    ThreshreedSalvage told;
+    size_t read;
+    for (uint32_t i = 0; i < THRESHREED_SLOTS; i += 1) {
+        all[i] = (ThreshreedHandle){i, i + 1};
+    }
+    for (size_t i = 0; i < LEN(damaged); i += 1) {
+        const char *file = damaged[i].file;
+        size_t length = damaged[i].length, bytes = damaged[i].bytes, count = strlen(damaged[i].ranges) / 2;
+        size_t words = count * THRESHREED_RANGE_WORDS, at = 0;
+        EXPECT(bytes <= THRESHREED_SALVAGE_BYTES(length) && words <= THRESHREED_SALVAGE_WORDS(length));
+        EXPECT(salvaging(file, length, bytes, words + 2, &told) == 0);
+        EXPECT(told.kept == (size_t)damaged[i].fresh[bytes - 2] && told.bytes == bytes && told.ranges == count);
+        EXPECT(memcmp(fresh, damaged[i].fresh, bytes) == 0);
+        for (size_t n = 0; n < count; n += 1) {
+            size_t from = at;
+            at += (size_t)damaged[i].ranges[2 * n + 1];
+            EXPECT(ranged(n, (uint64_t)damaged[i].ranges[2 * n], from, at));
+        }
+        EXPECT(at == length);
+        EXPECT(reading(all, (const uint8_t *)damaged[i].fresh, bytes, 10, &read) == 0 && read == told.kept);
+
+        /* The output comes before the list. */
+        EXPECT(salvaging(file, length, bytes - 1, 0, &told) == THRESHREED_OUTPUT_TOO_SHORT);
+        if (count > 0) {
+            EXPECT(salvaging(file, length, bytes, words - 1, &told) == THRESHREED_RECORDS_TOO_SHORT);
+        }
+    }
+}
+
+/* 4,096 commands are kept, and one more comes before a short output and a short list. */
+static void many_salvaged(void)
+{
+    static char file[(COMMANDS + 1) * 20];
+    const size_t most = COMMANDS * 20;
+    ThreshreedSalvage told;
+    for (size_t i = 0; i <= COMMANDS; i += 1) {
+        memcpy(file + i * 20, PLAY("\0"), 20);
+        file[i * 20 + 11] = (char)i;
+        file[i * 20 + 12] = (char)(i >> 8);
+    }
+    EXPECT(salvaging(file, most, most + 10, COMMANDS * THRESHREED_RANGE_WORDS, &told) == 0);
+    EXPECT(told.kept == COMMANDS && told.bytes == THRESHREED_SALVAGE_BYTES(most) && told.ranges == COMMANDS);
+    EXPECT(memcmp(fresh + 5, file, most) == 0 && memcmp(fresh + 5 + most, "\3\2\0\0\x10", 5) == 0);
+    EXPECT(ranged(COMMANDS - 1, THRESHREED_KEPT, most - 20, most));
+    EXPECT(salvaging(file, most, most + 9, 0, &told) == THRESHREED_OUTPUT_TOO_SHORT);
+    EXPECT(salvaging(file, most, most + 10, 0, &told) == THRESHREED_RECORDS_TOO_SHORT);
+    EXPECT(salvaging(file, sizeof file, 0, 0, &told) == THRESHREED_TOO_MANY);
+    EXPECT(salvaging(file, sizeof file, LEN(fresh), LEN(ranges), &told) == THRESHREED_TOO_MANY);
+    /* Cut in the last one. */
+    EXPECT(salvaging(file, sizeof file - 1, LEN(fresh), LEN(ranges), &told) == 0 && told.kept == COMMANDS);
+    EXPECT(ranged(COMMANDS, THRESHREED_DROPPED, most, most + 19));
+}
+
+/* NULL for a file, an output or a list is an empty one. */
+static void nothing_salvaged(void)
+{
+    static const uint8_t one[] = VERSION PLAY("\5") COUNT("\1");
+    ThreshreedSalvage told;
+    EXPECT(salvaging(NULL, 5, 10, 0, &told) == 0 && told.kept == 0 && told.bytes == 10 && told.ranges == 0);
+    EXPECT(memcmp(fresh, VERSION COUNT("\0"), 10) == 0);
+    EXPECT(tr_salvage(NULL, 5, fresh, 10, NULL, 9, &told) == 0 && told.bytes == 10);
+    EXPECT(tr_salvage(NULL, 5, NULL, 10, NULL, 9, NULL) == THRESHREED_OUTPUT_TOO_SHORT);
+    EXPECT(tr_salvage(one, sizeof one - 1, NULL, 30, ranges, 9, &told) == THRESHREED_OUTPUT_TOO_SHORT);
+    EXPECT(tr_salvage(one, sizeof one - 1, fresh, 30, NULL, 9, &told) == THRESHREED_RECORDS_TOO_SHORT);
+    EXPECT(tr_salvage(one, sizeof one - 1, fresh, 30, ranges, 9, NULL) == 0 && memcmp(fresh, one, 30) == 0);
+}
+
 /* NULL for a result that is not wanted. */
 static void unwanted_results(void)
 {
@@ -784,6 +934,9 @@ int main(void)
     refused_records();
     there_and_back();
     saved();
+    salvaged_files();
+    many_salvaged();
+    nothing_salvaged();
     unwanted_results();
 
     /* Nothing is lent. */

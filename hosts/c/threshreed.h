@@ -66,7 +66,7 @@ extern "C" {
     X(110, TOO_MANY, "more than 4,096 commands") \
     X(111, WRONG_COUNT, "wrong count of commands") \
     X(112, BYTES_AFTER_END, "bytes after the end") \
-    X(113, RECORDS_TOO_SHORT, "list for a tour's records too short") \
+    X(113, RECORDS_TOO_SHORT, "list for a tour's records or ranges too short") \
     X(114, UNREADABLE_RECORD, "record unreadable") \
     X(115, OUTPUT_TOO_SHORT, "output for a tour's file too short") \
     X(255, NO_SUCH_CASE, "argument names no case")
@@ -96,12 +96,19 @@ enum {
     THRESHREED_VOICES = 16,
     /* Words of a record: clock frame, number, kind, and two that the kind uses. */
     THRESHREED_WORDS = 5,
+    /* Words of a salvage's range: what was done with it, its first byte, and the byte behind its last. */
+    THRESHREED_RANGE_WORDS = 3,
     /* Bytes of stack that are enough for any call. */
     THRESHREED_STACK = 32768
 };
 
 /* The bytes that a tour's file of so many commands has at most: all of them loops. */
 #define THRESHREED_TOUR_BYTES(commands) (10 + 36 * (commands))
+
+/* What a salvage of a file of so many bytes writes at most: the bytes of the fresh file, and the words of the ranges,
+ * which are most where a dropped byte and an empty field that is passed over take turns, two in four bytes. */
+#define THRESHREED_SALVAGE_BYTES(bytes) (10 + (bytes))
+#define THRESHREED_SALVAGE_WORDS(bytes) (((bytes) + 1) / 2 * THRESHREED_RANGE_WORDS)
 
 /* A session's mode, chosen at opening. As tono: a swap's tail ignores the master gain, so that the old room bursts
  * through at full level where the score is turned down, and a song whose position is past its loop sounds from the
@@ -128,6 +135,10 @@ enum {
     THRESHREED_SWAP = 9,
     THRESHREED_STINGER = 10
 };
+
+/* What a salvage does with a range of a file's bytes: a command that is kept, another field that is passed over, bytes
+ * that are dropped. */
+enum { THRESHREED_KEPT = 1, THRESHREED_PASSED = 2, THRESHREED_DROPPED = 3 };
 
 /* When a command is due. */
 enum { THRESHREED_AT_ONCE = 1, THRESHREED_AT_CLOCK = 2, THRESHREED_AT_SONG = 3 };
@@ -342,6 +353,14 @@ typedef struct {
     size_t place;
 } ThreshreedTour;
 
+/* Of a salvage: the commands kept, the bytes of the fresh file, and the ranges listed; each 0 if it is refused. */
+typedef struct {
+    uint32_t refusal;
+    size_t kept;
+    size_t bytes;
+    size_t ranges;
+} ThreshreedSalvage;
+
 /* The same numbers are tested against the Rust types. */
 #define THRESHREED_SIZE(type, bytes) static_assert(sizeof(Threshreed##type) == (bytes), #type)
 #define THRESHREED_OFFSET(type, field, bytes) \
@@ -510,6 +529,12 @@ THRESHREED_OFFSET(Tour, refusal, 0);
 THRESHREED_OFFSET(Tour, count, 8);
 THRESHREED_OFFSET(Tour, place, 16);
 
+THRESHREED_SIZE(Salvage, 32);
+THRESHREED_OFFSET(Salvage, refusal, 0);
+THRESHREED_OFFSET(Salvage, kept, 8);
+THRESHREED_OFFSET(Salvage, bytes, 16);
+THRESHREED_OFFSET(Salvage, ranges, 24);
+
 /* ---- the proved functions, a session by value in and out */
 
 /* Opens a session on its first song. A refused one has no session to hand back: every call refuses what it gives. */
@@ -585,6 +610,11 @@ ThreshreedTour threshreed_read_tour(const uint64_t *clips, const uint8_t *file, 
  * looked at. */
 ThreshreedTour threshreed_write_tour(const uint64_t *clips, const uint64_t *records, size_t records_len, uint8_t *out,
                                      size_t out_len);
+
+/* Salvages a damaged tour's file: a fresh file to the output's front, the ranges to the list's. `list_len` is in words,
+ * three a range. */
+ThreshreedSalvage threshreed_salvage(const uint8_t *file, size_t file_len, uint8_t *out, size_t out_len, uint64_t *list,
+                                     size_t list_len);
 
 /* ---- a session together with its stores */
 
@@ -905,6 +935,34 @@ static inline uint32_t tr_read_tour(const ThreshreedHandle clips[THRESHREED_SLOT
     ThreshreedTour r = threshreed_read_tour(words, file ? file : &no_bytes, file ? file_len : 0,
                                             list ? list : &no_words, list ? list_len : 0);
     return tr_tour_told(r, records, place);
+}
+
+/* Salvages a damaged tour's file, such as one that was cut while it was copied:
+ *
+ *     tr_salvage(bytes, length, fresh, LEN(fresh), ranges, LEN(ranges), &told);
+ *     tr_read_tour(clips, fresh, told.bytes, list, LEN(list), &count, NULL);
+ *
+ * From left to right, a whole valid command whose number is above that of the last one kept is kept; a valid first or
+ * last field and a field that is skipped are passed over; at any other place one byte is dropped. The kept commands,
+ * byte for byte, make a fresh file at the front of `out`, which is read by whoever lists their clips. An undamaged file
+ * loses none. What only looks like a command may be kept too: the list shows where.
+ *
+ * The list has THRESHREED_RANGE_WORDS words for each range: THRESHREED_KEPT, THRESHREED_PASSED or THRESHREED_DROPPED,
+ * its first byte, and the byte behind its last. The ranges cover the file once, in order; bytes that are dropped side
+ * by side are one. `told` has the counts of commands, bytes and ranges; what stands behind them in output and list
+ * stays. THRESHREED_SALVAGE_BYTES and THRESHREED_SALVAGE_WORDS are always enough. */
+static inline uint32_t tr_salvage(const uint8_t *file, size_t file_len, uint8_t *out, size_t out_len, uint64_t *list,
+                                  size_t list_len, ThreshreedSalvage *told)
+{
+    static const uint8_t no_file = 0;
+    static uint8_t no_bytes;
+    static uint64_t no_words;
+    ThreshreedSalvage r = threshreed_salvage(file ? file : &no_file, file ? file_len : 0, out ? out : &no_bytes,
+                                             out ? out_len : 0, list ? list : &no_words, list ? list_len : 0);
+    if (r.refusal == 0 && told) {
+        *told = r;
+    }
+    return r.refusal;
 }
 
 /* ---- what a host reads */

@@ -267,6 +267,16 @@ pub struct Tour {
     pub place: usize,
 }
 
+/// The commands kept, the bytes of the fresh file and the ranges listed; each 0 if it is refused.
+#[repr(C)]
+#[derive(Clone, Copy, Debug, PartialEq, Eq)]
+pub struct Salvage {
+    pub refusal: u32,
+    pub kept: usize,
+    pub bytes: usize,
+    pub ranges: usize,
+}
+
 unsafe extern "C" {
     fn threshreed_open(
         settings: Settings,
@@ -428,6 +438,15 @@ unsafe extern "C" {
         out: *mut u8,
         out_len: usize,
     ) -> Tour;
+
+    fn threshreed_salvage(
+        file: *const u8,
+        file_len: usize,
+        out: *mut u8,
+        out_len: usize,
+        list: *mut u64,
+        list_len: usize,
+    ) -> Salvage;
 }
 
 // Each `unsafe` below is one call of the library. It asks of a pointer that it is aligned and not null, stands for so many
@@ -720,6 +739,21 @@ pub fn write_tour(clips: &[u64; SLOTS], records: &[u64], out: &mut [u8]) -> Tour
             records.len(),
             out.as_mut_ptr(),
             out.len(),
+        )
+    }
+}
+
+/// Salvages a damaged tour's file: a fresh file to the output's front, the ranges to the list's. A range is three words:
+/// 1 kept, 2 passed over or 3 dropped, its first byte, and the byte behind its last.
+pub fn salvage(file: &[u8], out: &mut [u8], list: &mut [u64]) -> Salvage {
+    unsafe {
+        threshreed_salvage(
+            file.as_ptr(),
+            file.len(),
+            out.as_mut_ptr(),
+            out.len(),
+            list.as_mut_ptr(),
+            list.len(),
         )
     }
 }

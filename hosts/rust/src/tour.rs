@@ -99,7 +99,7 @@ pub fn read_tour(clips: &Clips, file: &[u8], list: &mut [u64]) -> Result<usize, 
     })
 }
 
-/// Why a tour is not read or not written, and where.
+/// Why a tour is not read, not written or not salvaged, and where.
 #[derive(Clone, Copy, Debug, PartialEq, Eq, Hash)]
 pub struct TourRefusal {
     pub fault: TourFault,
@@ -136,6 +136,7 @@ pub enum TourFault {
     TooMany,
     WrongCount,
     BytesAfterEnd,
+    /// The list for the records of a reading, or for the ranges of a [`salvage`](crate::salvage()).
     RecordsTooShort,
     /// Its kind is none, or its gain is no 32 bits.
     UnreadableRecord,
@@ -167,6 +168,12 @@ impl TourFault {
         self as u32
     }
 
+    /// The fault of an answer's number: the library gives none but theirs and 0.
+    pub(crate) fn of(number: u32) -> Option<TourFault> {
+        let mut faults = TourFault::ALL.into_iter();
+        faults.find(|x| x.number() == number)
+    }
+
     const fn words(self) -> &'static str {
         match self {
             TourFault::ListedTwice => "handle listed twice",
@@ -181,7 +188,7 @@ impl TourFault {
             TourFault::TooMany => "more than 4,096 commands",
             TourFault::WrongCount => "wrong count of commands",
             TourFault::BytesAfterEnd => "bytes after the end",
-            TourFault::RecordsTooShort => "list for a tour's records too short",
+            TourFault::RecordsTooShort => "list for a tour's records or ranges too short",
             TourFault::UnreadableRecord => "record unreadable",
             TourFault::OutputTooShort => "output for a tour's file too short",
         }
@@ -215,13 +222,12 @@ fn words(clips: &Clips) -> [u64; raw::SLOTS] {
     })
 }
 
-/// An answer of the library, which gives no number but 0 and those of the faults.
+/// An answer of the library.
 fn answer(
     answered: raw::Tour,
     place: impl Fn(TourFault, usize) -> TourPlace,
 ) -> Result<usize, TourRefusal> {
-    let mut faults = TourFault::ALL.into_iter();
-    match faults.find(|x| x.number() == answered.refusal) {
+    match TourFault::of(answered.refusal) {
         None => Ok(answered.count),
         Some(fault) => Err(TourRefusal {
             fault,

@@ -67,6 +67,7 @@ fn the_header_asserts_the_layout_of_the_raw_types() {
         Snapped { refusal, snapshot, session }
         Metered { refusal, metrics, session }
         Tour { refusal, count, place }
+        Salvage { refusal, kept, bytes, ranges }
     };
     assert_eq!(expected, lines(&["THRESHREED_SIZE(", "THRESHREED_OFFSET("]));
     assert_eq!(size_of::<raw::Session>(), 2_040);

@@ -480,7 +480,7 @@ fn a_refusal_says_what_and_where() {
         "handle listed twice",
         "clip not listed, at byte 25",
         "bytes after the end, at byte 46",
-        "list for a tour's records too short",
+        "list for a tour's records or ranges too short",
     ];
     assert_eq!(said, expected);
     let refused = TourRefusal {
