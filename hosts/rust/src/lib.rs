@@ -28,7 +28,8 @@
 //! A block answers how often a loop came round in it, and [`Session::laps`] how often since the loop was set. A session
 //! plays as tono does, or in house mode, where a swap's tail is under the master gain and the song sounds where the
 //! playhead is ([`Mode`]). A driver that pulls is fed from a [`Ring`], into which frames are made ahead of time. What a
-//! capture kept is saved in a file ([`write_tour`]), which another session reads ([`read_tour`]) and replays.
+//! capture kept is saved in a file ([`write_tour`]), which another session reads ([`read_tour`]) and replays; of a
+//! damaged file a fresh one is made of what remains ([`salvage()`]).
 //!
 //! `examples/tour.rs` plays two minutes to a WAV file, `examples/told.rs` prints what each command did,
 //! `examples/streaming.rs` walks through eight rooms with a pool for two, and `examples/saved.rs` saves a walk and plays
@@ -40,6 +41,7 @@ mod command;
 pub mod raw;
 mod refusal;
 mod ring;
+mod salvage;
 mod session;
 mod tour;
 
@@ -47,5 +49,6 @@ pub use command::{At, ClockFrame, Command, Handle, LoopRange, Mode, Snapshot, So
 pub use raw::{Metrics, Report};
 pub use refusal::Refusal;
 pub use ring::{Callback, Pump, Pumped, Ring};
+pub use salvage::{Mark, Range, Salvaged, salvage, salvage_bytes, salvage_words};
 pub use session::{Session, Song, Stinger, Stores, WORDS};
 pub use tour::{Clips, TourFault, TourPlace, TourRefusal, read_tour, tour_bytes, write_tour};

@@ -5,7 +5,7 @@ use std::thread;
 
 use threshreed::{
     At, ClockFrame, Command, LoopRange, Mode, Refusal, Ring, Song, SongFrame, Stinger, Stores,
-    WORDS, read_tour, tour_bytes, write_tour,
+    WORDS, read_tour, salvage, salvage_bytes, salvage_words, tour_bytes, write_tour,
 };
 
 const RATE: u32 = 48_000;
@@ -62,7 +62,10 @@ fn every_call(mode: Mode) -> Result<(), Refusal> {
     let copied = session.stop_capture(&mut list)?;
     let mut file = [0; tour_bytes(32)];
     let length = write_tour(&session.clips(), &list[..copied * WORDS], &mut file).unwrap();
-    let read = read_tour(&session.clips(), &file[..length], &mut list).unwrap();
+    let mut fresh = vec![0; salvage_bytes(length)];
+    let mut ranges = vec![0; salvage_words(length)];
+    let salvaged = salvage(&file[..length], &mut fresh, &mut ranges).unwrap();
+    let read = read_tour(&session.clips(), salvaged.file, &mut list).unwrap();
     session.replay(&list[..read * WORDS])?;
     let snapshot = session.snapshot()?;
     session.apply_snapshot(snapshot)?;
