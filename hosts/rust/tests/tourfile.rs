@@ -1,13 +1,18 @@
 //! Tours in files: each refusal by its number and its place, the order of refusals, there and back, and a hundred thousand
 //! damaged files and lists of records beside a reader and a writer of the tests' own.
 
+#[path = "common/damage.rs"]
+mod damage;
 #[path = "common/dice.rs"]
 mod dice;
 #[path = "common/format.rs"]
 mod format;
+#[path = "common/met.rs"]
+mod met;
 
 use dice::Dice;
-use format::{Handles, Part, Record, command, count, field, version};
+use format::{Handles, Record, count, field, version};
+use met::Met;
 use threshreed::TourFault::{self, *};
 use threshreed::{
     At, Command, Refusal, Session, Song, Stinger, Stores, TourPlace, TourRefusal, WORDS, raw,
@@ -46,6 +51,10 @@ fn lent<T: Copy + PartialEq>(
     let mut faults = TourFault::ALL.into_iter();
     let fault = faults.find(|x| x.number() == answered.refusal);
     Err((fault.expect("the number is a fault's"), answered.place))
+}
+
+fn fault<T>(answer: &Answer<T>) -> Option<TourFault> {
+    answer.as_ref().err().map(|(fault, _)| *fault)
 }
 
 /// Reads into a list of so many words.
@@ -494,27 +503,6 @@ fn a_refusal_says_what_and_where() {
 // ---- by dice
 
 impl Dice {
-    fn of<T: Clone>(&mut self, list: &[T]) -> T {
-        list[self.place(list.len())].clone()
-    }
-
-    /// One place of so many; 0 of none.
-    fn place(&mut self, length: usize) -> usize {
-        self.below(length.max(1) as u64) as usize
-    }
-
-    fn one_in(&mut self, n: u64) -> bool {
-        self.below(n) == 0
-    }
-
-    /// Mostly small, now and then anything.
-    fn count(&mut self) -> u64 {
-        match self.below(8) {
-            0 => self.word(),
-            _ => self.below(300),
-        }
-    }
-
     /// None, some or all are listed, and now and then one of them twice. Some of those that are none have a slot.
     fn clips(&mut self) -> Handles {
         let full = self.below(4);
@@ -531,149 +519,6 @@ impl Dice {
         }
         clips
     }
-
-    /// A record that can be written, but for a clip where none is listed, and some words that its kind does not use.
-    fn record(&mut self, clips: &Handles, number: u64) -> Record {
-        let listed: Vec<u64> = clips.iter().copied().filter(|x| *x as u32 != 0).collect();
-        let kind = match listed.len() {
-            0 => self.of(&[1, 2, 3, 4, 5, 6, 7, 8]),
-            _ => 1 + self.below(10),
-        };
-        let mut record = [self.count(), number, kind, self.count(), self.count()];
-        for (part, word) in format::carried(kind).unwrap().iter().zip(&mut record[3..]) {
-            match part {
-                Part::Frame => {}
-                Part::Gain => *word = u64::from(self.word() as u32),
-                Part::Clip => *word = self.of(&listed),
-            }
-        }
-        record
-    }
-
-    /// Such records, their numbers rising.
-    fn records(&mut self, clips: &Handles) -> Vec<Record> {
-        let most = self.of(&[1, 4, 4, 12, 60]);
-        let mut number = self.count() / 2;
-        let mut next = || {
-            let steps = self.of(&[1, 1, 9, 1 << 40]);
-            number += 1 + self.below(steps);
-            number
-        };
-        let numbers: Vec<u64> = (0..most).map(|_| next()).collect();
-        let length = self.place(most + 1);
-        let numbers = numbers[..length].iter();
-        numbers.map(|n| self.record(clips, *n)).collect()
-    }
-
-    fn skipped(&mut self) -> Vec<u8> {
-        let length = match self.below(60) {
-            0 => 65_535,
-            _ => self.below(6),
-        };
-        let body: Vec<u8> = (0..length).map(|_| self.below(4) as u8).collect();
-        field(128 + self.below(128) as u8, &body)
-    }
-
-    /// Damages some field: changes its tag, length, kind, number, clip or count, or puts it elsewhere.
-    fn damage_fields(&mut self, fields: &mut Vec<Vec<u8>>) {
-        if fields.is_empty() {
-            return;
-        }
-        let [at, to] = [self.place(fields.len()), self.place(fields.len())];
-        let tag = fields[at][0];
-        match self.below(14) {
-            0 => fields[at][0] = self.of(&[0, 1, 2, 3, 4, 127, 128, 255]),
-            // A length that the body does not have, and a body of another length.
-            1 => fields[at][1] = fields[at][1].wrapping_add(self.of(&[1, 255, 20, 200])),
-            2 => fields[at][2] = self.below(3) as u8,
-            3 => {
-                let mut body = fields[at][3..].to_vec();
-                body.resize(self.place(40), 1);
-                fields[at] = field(tag, &body);
-            }
-            4 => fields.swap(at, to),
-            5 => {
-                let moved = fields.remove(at);
-                fields.insert(to, moved);
-            }
-            6 => fields.insert(to, fields[at].clone()),
-            7 => drop(fields.remove(at)),
-            8 => fields.insert(at, self.skipped()),
-            9 => fields.push(self.skipped()),
-            // Of a command or of the first and the last field, what counts there.
-            10 if tag == 2 && fields[at].len() > 19 => fields[at][19] = self.below(13) as u8,
-            11 if tag == 2 && fields[at].len() > 20 => fields[at][20] = self.below(40) as u8,
-            12 if tag == 2 && fields[at].len() > 18 => {
-                let number = self.of(&[0, 1, 5, self.0 / 2, u64::MAX]);
-                fields[at][11..19].copy_from_slice(&number.to_le_bytes());
-            }
-            _ if fields[at].len() > 4 => fields[at][3 + self.place(2)] ^= 1 << self.below(8),
-            _ => {}
-        }
-    }
-
-    /// Damages some byte.
-    fn damage_bytes(&mut self, file: &mut Vec<u8>) {
-        let [at, to] = [self.place(file.len()), self.place(file.len())];
-        match self.below(7) {
-            0 if !file.is_empty() => file[at] ^= 1 << self.below(8),
-            1 if !file.is_empty() => file[at] = self.word() as u8,
-            2 if !file.is_empty() => drop(file.remove(at)),
-            3 if !file.is_empty() => file.swap(at, to),
-            4 if !file.is_empty() => file.insert(to, file[at]),
-            5 => file.truncate(at),
-            _ => file.push(self.of(&[0, 1, 2, 3, 128])),
-        }
-    }
-
-    /// A file that was good once, or that never was one.
-    fn file(&mut self, clips: &Handles, large: &[Vec<u8>]) -> Vec<u8> {
-        if self.one_in(50) {
-            let length = self.place(40);
-            return (0..length).map(|_| self.word() as u8).collect();
-        }
-        let mut fields = match self.one_in(128) {
-            true => large.to_vec(),
-            false => {
-                let records = self.records(clips);
-                let commands = records.iter().map(|x| command(clips, x)).collect();
-                [vec![version()], commands, vec![count(records.len())]].concat()
-            }
-        };
-        while self.one_in(3) {
-            let place = 1 + self.place(fields.len() - 1);
-            fields.insert(place, self.skipped());
-        }
-        for _ in 0..self.below(3) {
-            self.damage_fields(&mut fields);
-        }
-        let mut file = fields.concat();
-        for _ in 0..self.below(6) / 4 {
-            self.damage_bytes(&mut file);
-        }
-        file
-    }
-}
-
-/// How often each fault was met; 0 stands for none.
-struct Met([usize; 256]);
-
-impl Met {
-    fn count<T>(&mut self, answer: &Answer<T>) {
-        let number = answer.as_ref().err().map_or(0, |(fault, _)| fault.number());
-        self.0[number as usize] += 1;
-    }
-
-    /// Says how often, and that each of these was met often.
-    fn tell(&self, faults: &[TourFault]) {
-        println!("{:>7}  taken", self.0[0]);
-        assert!(self.0[0] > 1_000);
-        for fault in faults {
-            let times = self.0[fault.number() as usize];
-            println!("{times:>7}  {}, {fault}", fault.number());
-            assert!(times > 100, "{fault}");
-        }
-    }
 }
 
 fn plain(record: &Record) -> Record {
@@ -687,7 +532,7 @@ fn plain(record: &Record) -> Record {
 fn damaged_files() {
     let mut dice = Dice(0x9E37_79B9_7F4A_7C15);
     let large = plays(MOST + 1);
-    let mut met = Met([0; 256]);
+    let mut met = Met::new();
     for _ in 0..100_000 {
         let mut clips = dice.clips();
         let file = dice.file(&clips, &large);
@@ -702,7 +547,7 @@ fn damaged_files() {
         let answer = read(&clips, &file, words);
         let expected = format::read(&clips, &file, words / WORDS);
         assert_eq!(answer, expected, "{clips:?} {words} {file:?}");
-        met.count(&answer);
+        met.count(fault(&answer));
         match answer {
             Err((_, place)) => assert!(place <= file.len()),
             // What was read is written as the same file, but for what was skipped.
@@ -732,7 +577,7 @@ fn without_skipped(file: &[u8]) -> Vec<u8> {
 fn records_of_any_words() {
     let mut dice = Dice(0x2545_F491_4F6C_DD1D);
     let large: Vec<Record> = (0..MOST as u64 + 1).map(|n| [7, n, 6, 1, 2]).collect();
-    let mut met = Met([0; 256]);
+    let mut met = Met::new();
     for _ in 0..100_000 {
         let clips = dice.clips();
         let mut records = match dice.one_in(256) {
@@ -759,7 +604,7 @@ fn records_of_any_words() {
         let answer = write(&clips, &words, room);
         let expected = format::write(&clips, &records, room);
         assert_eq!(answer, expected, "{clips:?} {room} {records:?}");
-        met.count(&answer);
+        met.count(fault(&answer));
         // What was written is read as the same records, but for the words that a kind does not use.
         if let Ok(file) = answer {
             let again: Vec<Record> = records.iter().map(plain).collect();
