@@ -32,7 +32,7 @@ pub fn carried(kind: u64) -> Option<&'static [Part]> {
 }
 
 impl Part {
-    fn bytes(self) -> usize {
+    pub fn bytes(self) -> usize {
         match self {
             Frame => 8,
             Gain => 4,
@@ -53,7 +53,7 @@ fn twice(clips: &Handles) -> bool {
 }
 
 /// A number in its bytes, the lowest first.
-fn number(bytes: &[u8]) -> u64 {
+pub fn number(bytes: &[u8]) -> u64 {
     let digits = bytes.iter().rev();
     digits.fold(0, |n, byte| n * 256 + u64::from(*byte))
 }
