@@ -1,5 +1,6 @@
 /* A walk of 48 seconds that is kept in a file: `saved TOUR WAV` plays it live, heard in WAV, and saves in TOUR what was
- * submitted on the way; `saved TOUR WAV again` replays TOUR, in blocks of other lengths, to the same sound.
+ * submitted on the way; `saved TOUR WAV again` replays TOUR, in blocks of other lengths, to the same sound. Of a damaged
+ * TOUR it replays what remains.
  *
  * hosts/rust/examples/saved.rs is the same walk: each plays what the other saved.
  */
@@ -111,14 +112,29 @@ static void save(FILE *tour)
     printf("saved: %zu commands in %zu bytes, peak %.6f\n", count, length, (double)peak);
 }
 
+/* Reads what was saved, or what remains of it. */
+static size_t restore(FILE *tour)
+{
+    static uint8_t fresh[THRESHREED_SALVAGE_BYTES(sizeof bytes)];
+    static uint64_t ranges[THRESHREED_SALVAGE_WORDS(sizeof bytes)];
+    size_t length = fread(bytes, 1, LEN(bytes), tour), count;
+    ThreshreedSalvage told;
+    uint32_t refusal = tr_read_tour(clips, bytes, length, list, LEN(list), &count, NULL);
+    if (refusal != 0) {
+        need(tr_salvage(bytes, length, fresh, LEN(fresh), ranges, LEN(ranges), &told));
+        need(tr_read_tour(clips, fresh, told.bytes, list, LEN(list), &count, NULL));
+        printf("saved: %s, %zu commands remain\n", threshreed_refusal(refusal), count);
+    }
+    return count;
+}
+
 /* Plays what was saved. */
 static void again(FILE *tour)
 {
     static const size_t lengths[] = {1, 37, 512, 4096};
     static float out[2 * 4096];
-    size_t length = fread(bytes, 1, LEN(bytes), tour), count;
+    size_t count = restore(tour);
     ThreshreedReport report;
-    need(tr_read_tour(clips, bytes, length, list, LEN(list), &count, NULL));
     need(tr_replay(&t, list, count * THRESHREED_WORDS, &report));
     if (report.taken != count || report.full != 0 || report.skipped != 0) {
         fputs("not all of it was taken\n", stderr);

@@ -1,5 +1,6 @@
 //! A walk of 48 seconds that is kept in a file: `saved TOUR WAV` plays it live, heard in WAV, and saves in TOUR what was
-//! submitted on the way; `saved TOUR WAV again` replays TOUR, in blocks of other lengths, to the same sound.
+//! submitted on the way; `saved TOUR WAV again` replays TOUR, in blocks of other lengths, to the same sound. Of a damaged
+//! TOUR it replays what remains.
 //!
 //! hosts/c/saved.c is the same walk: each plays what the other saved.
 
@@ -11,8 +12,8 @@ use std::sync::Mutex;
 
 use rooms::{BAR, BEAT, BLOCK, RATE, ROOM, Wav, bars, of_song, on, play};
 use threshreed::{
-    At, Command, Handle, Refusal, Report, Session, Song, SongFrame, Stinger, Stores, WORDS,
-    read_tour, tour_bytes, write_tour,
+    At, Command, Handle, Refusal, Report, Session, Song, SongFrame, Stinger, Stores, TourRefusal,
+    WORDS, read_tour, salvage, salvage_bytes, salvage_words, tour_bytes, write_tour,
 };
 
 const BARS: usize = 24;
@@ -131,12 +132,24 @@ fn live(tour: &str, wav: &str) -> Result<(), Box<dyn Error>> {
     Ok(())
 }
 
+/// Reads what was saved, or what remains of it.
+fn restore(session: &Session, file: &[u8], list: &mut [u64]) -> Result<usize, TourRefusal> {
+    read_tour(&session.clips(), file, list).or_else(|refusal| {
+        let mut fresh = vec![0; salvage_bytes(file.len())];
+        let mut ranges = vec![0; salvage_words(file.len())];
+        let salvaged = salvage(file, &mut fresh, &mut ranges)?;
+        let count = read_tour(&session.clips(), salvaged.file, list)?;
+        println!("saved: {}, {count} commands remain", refusal.fault);
+        Ok(count)
+    })
+}
+
 /// Plays what was saved.
 fn again(tour: &str, wav: &str) -> Result<(), Box<dyn Error>> {
     let mut stores = STORES.lock()?;
     let (mut session, _) = open(&mut stores)?;
     let mut list = [0; COMMANDS * WORDS];
-    let count = read_tour(&session.clips(), &fs::read(tour)?, &mut list)?;
+    let count = restore(&session, &fs::read(tour)?, &mut list)?;
     let all = Report {
         taken: count,
         full: 0,
