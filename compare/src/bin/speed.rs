@@ -5,7 +5,8 @@
 //! check the session and its stores every time; a block of no frames is that check alone, timed in the same round.
 //!
 //! A block through a ring is a pump of its frames and a drain of them, on both sides. A tour's file is ours alone: a second
-//! table, which `speed tours` makes without the first, has the median of many calls.
+//! table, which `speed tours` makes without the first, has the median of many calls, and a third, `speed salvage`, has the
+//! salvage of files that are damaged and of files that are none.
 //!
 //! `speed blocks` names the cases of one block. `speed N ours`, `check`, `tono` or `none` makes the one in line N, from
 //! 0, up to that call, which comes last, and measures nothing: the script `compare/instructions` does.
@@ -14,11 +15,13 @@ use std::env;
 use std::hint::black_box;
 use std::time::Instant;
 
+use compare::dice::Dice;
 use compare::runtime::AudioSource;
 use compare::runtime::ring::{Pump, Renderer, spsc};
 use compare::session::{At, Session, Song, Stinger, Submission};
 use threshreed::{
-    ClockFrame, Command, Handle, LoopRange, Mode, Ring, SongFrame, WORDS, raw, tour_bytes,
+    ClockFrame, Command, Handle, LoopRange, Mode, Ring, SongFrame, WORDS, raw, salvage_bytes,
+    salvage_words, tour_bytes,
 };
 
 const RATE: u32 = 48_000;
@@ -554,10 +557,15 @@ fn tour(name: &str, record: impl Fn(u64) -> [u64; WORDS]) {
     let mut out = vec![0; tour_bytes(TOUR)];
     let mut list = vec![0; TOUR * WORDS];
     let words = records.as_flattened();
+    let calls = RUNS * ROUNDS;
     let bytes = raw::write_tour(&clips, words, &mut out).count;
-    let written = median_of(|| raw::write_tour(&clips, black_box(words), black_box(&mut out)));
+    let written = median_of(calls, || {
+        raw::write_tour(&clips, black_box(words), black_box(&mut out))
+    });
     let file = &out[..bytes];
-    let read = median_of(|| raw::read_tour(&clips, black_box(file), black_box(&mut list)));
+    let read = median_of(calls, || {
+        raw::read_tour(&clips, black_box(file), black_box(&mut list))
+    });
     assert!(list == words);
     println!(
         "| {name} | {bytes} | {:.1} | {:.1} | {:.1} | {:.1} |",
@@ -573,10 +581,61 @@ fn listed(byte: usize) -> u64 {
     (byte as u64) << 32 | (byte + 1) as u64
 }
 
-/// Nanoseconds of one call.
-fn median_of(mut call: impl FnMut() -> raw::Tour) -> f64 {
-    let calls = 0..RUNS * ROUNDS;
-    let mut times: Vec<f64> = calls.map(|_| nanoseconds(1, &mut call)).collect();
+/// A whole tour, and one and two megabytes of what is none: one byte again and again, empty fields that are passed
+/// over, those with a dropped byte before each, which have the most ranges, one command whose number does not rise, and
+/// random bytes, among which half of the tags are skippable or none.
+fn salvages() {
+    println!(
+        "| a salvage of | bytes | kept | ranges | µs | ns a byte |\n|---|---|---|---|---|---|"
+    );
+    let commands: Vec<u8> = (0..TOUR as u64).flat_map(play).collect();
+    let file = [&[1, 2, 0, 1, 0], &commands[..], &[3, 2, 0, 0, 16]].concat();
+    salvage("a tour of 4,096", &file);
+    for bytes in [1 << 20, 2 << 20] {
+        let again = |part: &[u8]| -> Vec<u8> { part.iter().copied().cycle().take(bytes).collect() };
+        salvage("zero bytes", &again(&[0]));
+        salvage("the byte 2", &again(&[2]));
+        salvage("empty fields", &again(&[128, 0, 0]));
+        salvage("a dropped byte and an empty field", &again(&[0, 128, 0, 0]));
+        salvage("one command", &again(&play(5)));
+        let mut dice = Dice::new(1);
+        let mut random: Vec<u8> = (0..bytes).map(|_| dice.word() as u8).collect();
+        salvage("random bytes", &random);
+        random.iter_mut().for_each(|byte| *byte %= 128);
+        salvage("random bytes below 128", &random);
+    }
+}
+
+fn salvage(name: &str, file: &[u8]) {
+    let bytes = file.len();
+    let mut out = vec![0; salvage_bytes(bytes)];
+    let mut list = vec![0; salvage_words(bytes)];
+    let answered = raw::salvage(file, &mut out, &mut list);
+    assert_eq!(answered.refusal, 0);
+    let time = median_of(ROUNDS, || {
+        raw::salvage(black_box(file), black_box(&mut out), black_box(&mut list))
+    });
+    println!(
+        "| {name} | {bytes} | {} | {} | {:.1} | {:.2} |",
+        answered.kept,
+        answered.ranges,
+        time / 1000.0,
+        time / bytes as f64
+    );
+}
+
+/// The field of a command with a number.
+fn play(number: u64) -> [u8; 20] {
+    let mut field = [0; 20];
+    field[..2].copy_from_slice(&[2, 17]);
+    field[11..19].copy_from_slice(&number.to_le_bytes());
+    field[19] = 1;
+    field
+}
+
+/// Nanoseconds of one call, where so many are made.
+fn median_of<T>(calls: usize, mut call: impl FnMut() -> T) -> f64 {
+    let mut times: Vec<f64> = (0..calls).map(|_| nanoseconds(1, &mut call)).collect();
     times.sort_by(f64::total_cmp);
     times[times.len() / 2]
 }
@@ -597,13 +656,16 @@ fn main() {
             line("a load of a million frames", load);
             println!();
             tours();
+            println!();
+            salvages();
         }
         ["tours"] => tours(),
+        ["salvage"] => salvages(),
         ["blocks"] => cases.iter().for_each(|case| println!("{}", case.name())),
         [number, call] => {
             let number: usize = number.parse().expect("a case has a number");
             cases[number].count(call);
         }
-        _ => panic!("no word, `tours`, `blocks`, or a case's number and a call"),
+        _ => panic!("no word, `tours`, `salvage`, `blocks`, or a case's number and a call"),
     }
 }
