@@ -19,6 +19,26 @@ pub fn number(n: u64) {
     io::print_decimal(STDOUT_FILENO, n);
 }
 
+/// Blanks for the places that so many digits leave, of at most 12.
+fn blanks(digits: usize, places: usize) {
+    let all = [b' '; 12];
+    if places > 12 {
+        return;
+    }
+    if digits > places {
+        return;
+    }
+    text(&all[digits..places]);
+}
+
+/// A number, right-aligned in so many places; a longer one takes more.
+pub fn column(n: u64, places: usize) {
+    let mut digits = [0u8; 20];
+    let k = io::decimal(n, &mut digits);
+    blanks(k, places);
+    text(&digits[..k]);
+}
+
 /// The bits of a number; every NaN has the same.
 pub fn bits(x: f32) -> u64 {
     if x != x {

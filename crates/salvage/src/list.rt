@@ -1,7 +1,7 @@
 //! The list of a file's ranges, and the totals.
 ghost use Prim.Native.Nat.{_≤_, _<_};
 use crate::words;
-use crate::words::column;
+use print::column;
 use print::text;
 use remains::Range;
 use remains::Salvaged;

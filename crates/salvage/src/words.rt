@@ -1,28 +1,9 @@
-//! Numbers in columns, and what a field says.
+//! What a field says.
 ghost use Prim.Native.Nat.{_+_, _<_, _^_};
 use fields::Part;
+use print::column;
 use print::number;
 use print::text;
-
-/// Blanks for the places that so many digits leave, of at most 12.
-fn blanks(digits: usize, places: usize) {
-    let all = [b' '; 12];
-    if places > 12 {
-        return;
-    }
-    if digits > places {
-        return;
-    }
-    text(&all[digits..places]);
-}
-
-/// A number, right-aligned in so many places; a longer one takes more.
-pub fn column(n: u64, places: usize) {
-    let mut digits = [0u8; 20];
-    let k = io::decimal(n, &mut digits);
-    blanks(k, places);
-    text(&digits[..k]);
-}
 
 // ---- gains
 

@@ -22,10 +22,10 @@ use Rattle.tourfile.specs.Writer.{lastBytes}
 use Rattle.tourfile.proofs.Judging.{skip}
 use Rattle.roundtrip.proofs.Back.{fine-version, fine-last}
 use Rattle.roundtrip.proofs.Calls.{read-done, read-front}
-use Rattle.remains.specs.Salvage.{noClip, isValid, isKept, rangesOf, keptFields, fresh, salvageOf}
+use Rattle.remains.specs.Salvage.{noClip, isValid, isKept, rangesOf, keptFields, fresh}
 use Rattle.remains.proofs.Runs.{kept-tag}
 use Rattle.salvaged.specs.Salvaged.{SalvagedThenRead}
-use Rattle.salvaged.proofs.Answers.{says-done, done-salvage, fresh-front}
+use Rattle.salvaged.proofs.Answers.{says-salvage, fresh-front}
 use Rattle.salvaged.proofs.Kept.{Kept, kept-anywhere, kept-whole, all-kept, fields-fresh}
 
 -- ---- one kept field
@@ -131,7 +131,7 @@ module _ (clips : List ℕ) where
 
 pub salvaged-then-read : SalvagedThenRead
 salvaged-then-read clips file out list records k b r s g u h =
-    let d = done-salvage file (length out) (length list) k b r (says-done (salvageOf file (length out) (length list)) k b r s) in
+    let d = says-salvage file (length out) (length list) k b r s in
     let w : weighed clips start (fieldsOf (fresh file)) ≡ TourAnswer.Done k = weighed-fresh clips file g (d .few) ∙ ap TourAnswer.Done (sym (d .kept)) in
     let e = read-done clips (fresh file) (length records) k (record { once = u; fine = w; fits = h }) in
     rw (fresh-front file out (length list) k b r s) (ap saysTour e, read-front clips (fresh file) records k e ∙ rows-fresh clips file)

@@ -10,10 +10,10 @@ use Rattle.counts.specs.Below.{allBelow}
 use Rattle.fields.specs.Clips.{isHandle, isListed}
 use Rattle.fields.specs.Field.{numberIn}
 use Rattle.tourfile.specs.Writer.{lastBytes}
-use Rattle.remains.specs.Salvage.{rangesOf, keptFields, fileWith, fresh, salvageOf}
+use Rattle.remains.specs.Salvage.{rangesOf, keptFields, fileWith, fresh}
 use Rattle.remains.proofs.Runs.{kept-tag}
 use Rattle.salvaged.specs.Salvaged.{isDropped, commandsIn, SalvagedAgain}
-use Rattle.salvaged.proofs.Answers.{says-done, done-salvage, salvage-done, fresh-front}
+use Rattle.salvaged.proofs.Answers.{says-salvage, salvage-says, fresh-front}
 use Rattle.salvaged.proofs.Beside.{fields-whole, none-dropped, range-each}
 use Rattle.salvaged.proofs.Kept.{Kept, all-kept, fields-fresh}
 use Rattle.salvaged.proofs.Accept.{weighed-fresh}
@@ -57,7 +57,7 @@ module _ (file : List ℕ) (few : length (keptFields file (rangesOf file)) ≤ 4
 
 pub salvaged-again : SalvagedAgain
 salvaged-again file out list out2 list2 k b r s o l =
-    let d = done-salvage file (length out) (length list) k b r (says-done (salvageOf file (length out) (length list)) k b r s) in
+    let d = says-salvage file (length out) (length list) k b r s in
     let c = d .kept in
     let z = d .bytes in
     let n = ranges-two file (d .few) in
@@ -66,7 +66,7 @@ salvaged-again file out list out2 list2 k b r s o l =
     let e = same-fields file (d .few) in
     let q : length (keptFields (fresh file) (rangesOf (fresh file))) ≡ length (keptFields file (rangesOf file)) = ap length e in
     let m = d .few in
-    let t = salvage-done (fresh file) (length out2) (length list2) k b (k + 2) (record {
+    let t = salvage-says (fresh file) (length out2) (length list2) k b (k + 2) (record {
       kept = omega arith;
       bytes = omega arith;
       ranges = omega arith;

@@ -23,7 +23,7 @@ use Rattle.remains.specs.Steps.{next}
 use Rattle.remains.proofs.Runs.{what-kept, what-passed, next-field}
 use Rattle.remains.proofs.Walk.{from, from-start, from-none, from-front, length-next, fields-kept, fields-other}
 use Rattle.salvaged.specs.Salvaged.{isDropped, commandsIn, Undamaged, UndamagedDone}
-use Rattle.salvaged.proofs.Answers.{salvage-done}
+use Rattle.salvaged.proofs.Answers.{salvage-says}
 use Rattle.salvaged.proofs.Accepted.{fields-here, field-by-field}
 use Rattle.salvaged.proofs.Stands.{stands-kept, stands-passed, not-kept}
 
@@ -131,4 +131,4 @@ undamaged-done clips file room n out list s o l =
     let e = done-read clips file room n (says-done (readOf clips file room) n s) .fine in
     let c = count clips file n e in
     let m = few clips file n e in
-    salvage-done file out list n (length (fresh file)) (length (rangesOf file)) (record { kept = sym c; bytes = refl; ranges = refl; few = omega arith; fits = o; listed = l })
+    salvage-says file out list n (length (fresh file)) (length (rangesOf file)) (record { kept = sym c; bytes = refl; ranges = refl; few = omega arith; fits = o; listed = l })

@@ -9,7 +9,7 @@ use Rattle.roundtrip.proofs.Calls.{drop-front}
 use Rattle.remains.specs.declared.Range.{Range}
 use Rattle.remains.specs.Salvage.{rangesOf, fresh, salvageOf, rangeWords, salvageOut, salvageList}
 use Rattle.salvaged.specs.Salvaged.{SalvageLeaves}
-use Rattle.salvaged.proofs.Answers.{says-done, says-left, done-salvage}
+use Rattle.salvaged.proofs.Answers.{says-done, says-left, says-salvage}
 
 -- three words a range
 words-length : (rs : List Range) → length (rangeWords rs) ≡ length rs * 3
@@ -25,7 +25,7 @@ salvage-leaves file out list = record {
     says-left (salvageOf file (length out) (length list)) number (sets list 0 (rangeWords (rangesOf file))) list s,
   );
   accepted = λ k b r s. let e = says-done (salvageOf file (length out) (length list)) k b r s in
-      let d = done-salvage file (length out) (length list) k b r e in
+      let d = says-salvage file (length out) (length list) k b r s in
       let w = words-length (rangesOf file) in
       let n : r * 3 ≡ length (rangeWords (rangesOf file)) = let x = d .ranges in omega arith in
       let f = d .listed in

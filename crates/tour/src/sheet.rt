@@ -5,6 +5,7 @@ use clips::LoadAnswer;
 use control::SnapshotAnswer;
 use control::StopAnswer;
 use counts::Handle;
+use print::column;
 use print::number;
 use print::text;
 use session::Answer;
@@ -159,18 +160,6 @@ fn counted(what: &[u8], n: u64) {
 
 // ---- a line for each block
 
-/// A number, right-aligned in six places.
-fn column(n: u64) {
-    let mut limit: u64 = 100000;
-    while limit > 1 {
-        if n < limit {
-            text(b" ");
-        }
-        limit /= 10;
-    }
-    number(n);
-}
-
 fn state(s: TransportState) {
     match s {
         TransportState::Stopped => text(b"  stopped  "),
@@ -194,9 +183,9 @@ fn fading(h: Handle) {
 /// Clock, position, laps and state.
 fn stands(s: Session) {
     text(b"\n");
-    column(s.clock().0);
-    column(s.position().0);
-    column(s.laps());
+    column(s.clock().0, 6);
+    column(s.position().0, 6);
+    column(s.laps(), 6);
     state(s.state());
 }
 
@@ -208,7 +197,7 @@ fn sounding(s: Session) {
     let fade = sound.fade;
     let t = fade.tail;
     tail(t);
-    column(sound.voices.count as u64);
+    column(sound.voices.count as u64, 6);
 }
 
 fn magnitude(x: f32) -> f32 {
@@ -251,8 +240,8 @@ fn bar(peak: u64, blank: &[u8]) {
 fn meter(out: &[f32; 512]) {
     let left = peak(out, 0);
     let right = peak(out, 1);
-    column(left);
-    column(right);
+    column(left, 6);
+    column(right, 6);
     bar(left, b" ");
     text(b"|");
     bar(right, b"");

@@ -1,7 +1,7 @@
 -- Safe, and ends. Assumes nothing.
 use mathlib.Core.Path.{sym, _∙_}
 use native.Mathlib.Omega.{arith}
-use Rattle.salvage.proofs.Fits.{fits}
+use Rattle.remains.proofs.Fresh.{done-salvage}
 use borrow.Author.Needs.{needs}
 use Rattle.salvage.proofs.salvage_to.Statement.{statement}
 use Rattle.salvage.proofs.salvage_to.Tie as tie
@@ -22,8 +22,8 @@ write-requires : tie.Need-write-requires
 write-requires c κs =
     let b = c .before .before .before .a2 .given in
     let e = c .before .before .before .before .before .salvage .ensures in
-    let f = fits _ _ _ (b .0 .0) (sym (e .0) ∙ b .1) in
-    (omega (arith, f .0), omega (arith, f .1))
+    let d = done-salvage _ _ _ (b .0 .0) (sym (e .0) ∙ b .1) in
+    (omega (arith, d .bytes, d .fits), omega (arith, d .ranges, d .listed))
 
 returns : tie.Need-returns
 returns c = search needs
