@@ -56,7 +56,7 @@ module _ (file : List ℕ) (p : Progress) where
       go false true e = absurd (omega arith)
       go false false e = absurd (omega arith)
 
-  passed-what : (what file p ≡ 1 → ⊥) → (what file p ≡ 3 → ⊥) → isPassed (fieldAt file (p .at)) ≡ true
+  pub passed-what : (what file p ≡ 1 → ⊥) → (what file p ≡ 3 → ⊥) → isPassed (fieldAt file (p .at)) ≡ true
   unfolding what
   passed-what n m = go (isKept p (fieldAt file (p .at))) (isPassed (fieldAt file (p .at))) n m
     where
@@ -70,7 +70,7 @@ pub kept-tag : (p : Progress) (f : List ℕ) → isKept p f ≡ true → tagOf f
 unfolding isKept
 kept-tag p f k = eqb-true (tagOf f) 2 (and-l (eqb (tagOf f) 2) (not (notRising p f)) (and-r (isValid f) (eqb (tagOf f) 2 && not (notRising p f)) k))
 
-pub passed-tag : (f : List ℕ) → isPassed f ≡ true → tagOf f ≡ 2 → ⊥
+passed-tag : (f : List ℕ) → isPassed f ≡ true → tagOf f ≡ 2 → ⊥
 unfolding isPassed
 passed-tag f i t = never (sym (rw t at (and-r (isValid f) (eqb (tagOf f) 1 || eqb (tagOf f) 3 || leb 128 (tagOf f)) i)))
 

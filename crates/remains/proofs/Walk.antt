@@ -176,7 +176,7 @@ module _ (file : List ℕ) (p : Progress) (h : p .at < length file) where
   unfolding keptFields
   fields-other n = rw (from-front, ne-eqb (what file p) 1 n) refl
 
-  pub kept-size : what file p ≡ 1 → length (fieldAt file (p .at)) ≡ next file p .at - p .at
+  kept-size : what file p ≡ 1 → length (fieldAt file (p .at)) ≡ next file p .at - p .at
   kept-size e = let a : next file p .at ≡ p .at + length (fieldAt file (p .at)) = ap (λ (q : Progress). q .at) (next-kept file p e) in omega arith
 
   -- how many, and how many bytes

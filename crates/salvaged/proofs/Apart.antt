@@ -19,7 +19,7 @@ before-apart r (q ∷ rs) h = go (isDropped r) (isDropped q) refl refl
     go true false e d = rw (e, d) (rw d at h)
     go false b e d = rw e h
 
-joined-apart : (rs : List Range) → apart (joined rs) ≡ true
+pub joined-apart : (rs : List Range) → apart (joined rs) ≡ true
 unfolding joined
 joined-apart [] = refl
 joined-apart (r ∷ rs) = before-apart r (joined rs) (joined-apart rs)

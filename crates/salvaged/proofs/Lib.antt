@@ -10,3 +10,4 @@ pub mod Kept
 pub mod Accept
 pub mod Again
 pub mod Cut
+pub mod Enough

@@ -39,6 +39,10 @@ apart (r ∷ rs) = not (isDropped r && beginsDropped rs) && apart rs
 abbrev pub Apart : Type 0
 Apart = (file : List ℕ) → apart (rangesOf file) ≡ true
 
+-- ten bytes more than the file has are enough for the fresh one, and half as many ranges as bytes, rounded up, for the list
+abbrev pub Enough : Type 0
+Enough = (file : List ℕ) → (length (fresh file) ≤ 10 + length file) × (length (rangesOf file) * 2 ≤ length file + 1)
+
 -- the commands among a file's fields
 abbrev pub commandsIn : List (List ℕ) → List (List ℕ)
 commandsIn [] = []
