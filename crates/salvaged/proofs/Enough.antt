@@ -76,9 +76,10 @@ module _ (file : List ℕ) where
       -- nothing is dropped behind a run
       run : eqb (what file p) 3 ≡ true → Few p
       run e =
-          let a : not (eqb (what file p) 3 && beginsDropped (from file (next file p))) && apart (from file (next file p)) ≡ true = rw (from-front file p h) at (joined-apart (steps (length file) file p)) in
-          let b : beginsDropped (from file (next file p)) ≡ false = rw e at (not-true (eqb (what file p) 3 && beginsDropped (from file (next file p))) (and-l (not (eqb (what file p) 3 && beginsDropped (from file (next file p)))) (apart (from file (next file p))) a)) in
-          let f = ih .field b in
+          let a : not (eqb (what file p) 3 && beginsDropped (from file (next file p))) && apart (from file (next file p)) ≡ true =
+          rw (from-front file p h) at (joined-apart (steps (length file) file p)) in
+          let b : not (beginsDropped (from file (next file p))) && apart (from file (next file p)) ≡ true = rw e at a in
+          let f = ih .field (not-true (beginsDropped (from file (next file p))) (and-l _ (apart (from file (next file p))) b)) in
           let l = length-next file p h in
           let n = next-at file p h in
           let x = n .0 in

@@ -20,9 +20,11 @@ same-length c = search needs
 returns : tie.Need-returns
 unfolding fresh
 returns c =
-    let a = c .before .before .before .before .before .before .before .before .before .before .before .before .before .before .args in
-    let k = c .before .before .before .before .before .before .put-kept .ensures in
-    rw (c .before .before .put-last .ensures, k .1, k .0, c .before .before .before .before .before .before .before .before .before .before .put-version .ensures, c .before .before .before .before .before .before .before .before .before .before .before .before .before .before .pre .1) (file-writes (keptFields (a .file .now) (rangesOf (a .file .now))) (a .out .now))
+    let k = c .before .before .before .before .before .before in
+    let v = k .before .before .before .before in
+    let s = v .before .before .before .before in
+    rw (c .before .before .put-last .ensures, k .put-kept .ensures .1, k .put-kept .ensures .0, v .put-version .ensures, s .pre .1)
+    (file-writes (keptFields (s .args .file .now) (rangesOf (s .args .file .now))) (s .args .out .now))
 
 pub put-fresh-spec : {M : Type 1} → statement M
 put-fresh-spec =

@@ -67,7 +67,8 @@ loop-again c =
     let e = c .before .before .before .before .next-place .ensures in
     let m = length-next (a .file .now) (l .p) h in
     let j = l .inv .2 in
-    (rw e (next-inside (a .file .now) (l .p) h (l .inv .0)), search needs, rw e (omega arith), rw (c .before .before .put-range .ensures, e, c .before .before .before .before .before .what-at .ensures) (words-next (a .file .now) (l .p) h (l .list) (l .k) ∙ l .inv .3))
+    let w = c .before .before .before .before .before .what-at .ensures in
+    (rw e (next-inside (a .file .now) (l .p) h (l .inv .0)), search needs, rw e (omega arith), rw (c .before .before .put-range .ensures, e, w) (words-next (a .file .now) (l .p) h (l .list) (l .k) ∙ l .inv .3))
 
 same-length : tie.Need-same-length Inv-loop μ-loop
 same-length c = search needs

@@ -81,7 +81,9 @@ returns-5 c =
     let y = ap (λ (t : Tally). t .bytes) e in
     let n = ap (λ (t : Tally). t .ranges) e in
     let u = rw y at (c .before .before .before .before .before .before .before .before .before .if3 .left) in
-    let r = left-done (a .file .now) (a .out .now) (a .list .now) (rw k at (c .before .before .before .before .before .before .before .before .before .before .before .if1 .left)) (omega arith) (rw n at (c .before .before .before .before .before .before .before .before .if4 .left)) in
+    let few = rw k at (c .before .before .before .before .before .before .before .before .before .before .before .if1 .left) in
+    let listed = rw n at (c .before .before .before .before .before .before .before .before .if4 .left) in
+    let r = left-done (a .file .now) (a .out .now) (a .list .now) few (omega arith) listed in
     (rw (k, y, n) (r .0), (c .before .before .before .before .before .before .put-fresh .ensures ∙ r .1, c .before .before .put-ranges .ensures ∙ r .2))
 
 pub salvage-spec : {M : Type 1} → statement M
