@@ -35,7 +35,7 @@ pub fn two(s: &[u8], i: usize) -> u16
 }
 
 /// The number of four bytes.
-fn four(s: &[u8], i: usize) -> u32
+pub fn four(s: &[u8], i: usize) -> u32
     requires { ⌜ i + 3 < 2 ^ 64 ⌝ }
     ensures { λ r. ⌜ r ≡ four (now (s .entry)) i ⌝ }
 {

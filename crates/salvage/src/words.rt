@@ -85,7 +85,7 @@ fn part(p: Part, f: &[u8], i: usize)
     match p {
         Part::Nothing => {}
         Part::Frame => number(fields::eight(f, i)),
-        Part::Gain => gain(fields::part_in(&[0; 32], p, f, i)),
+        Part::Gain => gain(fields::four(f, i) as u64),
         Part::Clip => number(fields::byte(f, i) as u64),
     }
 }
