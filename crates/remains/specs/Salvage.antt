@@ -28,7 +28,7 @@ dropped = 3
 unfoldable pub noClip : List ℕ → Bool
 noClip f = eqb (tagOf f) 2 && (hasClip (kindIn f) && leb 32 (clipIn f))
 
--- a field is valid: whole, and without the faults that the reader finds in a field by itself
+-- a field is valid for its tag: whole, and of a right length, version, kind and clip where the tag asks for one
 unfoldable pub isValid : List ℕ → Bool
 isValid f = isWhole f && (not (wrongLength f) && (not (otherVersion f) && (not (unknownKind f) && not (noClip f))))
 

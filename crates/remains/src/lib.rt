@@ -52,7 +52,7 @@ fn no_clip(f: &[u8]) -> bool
     (tag == 2) & (has & (32 <= clip))
 }
 
-/// A field is whole, and has none of the faults that the reader finds in a field by itself.
+/// A field is valid for its tag: whole, and of a right length, version, kind and clip where the tag asks for one.
 fn is_valid(f: &[u8]) -> bool
     ensures { λ r. ⌜ r ≡ isValid (now (f .entry)) ⌝ }
 {

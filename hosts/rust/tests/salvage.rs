@@ -482,7 +482,8 @@ fn damaged_files() {
         assert_eq!(answer, expected, "{bytes} {words} {file:?}");
         met.count(answer.as_ref().err().copied());
         if let Ok(remains) = answer {
-            assert!(bytes <= salvage_bytes(file.len()) + 2);
+            assert!(remains.file.len() <= salvage_bytes(file.len()));
+            assert!(3 * remains.ranges.len() <= salvage_words(file.len()));
             assert_promised(&file, &remains);
             let ranges = remains.ranges.iter();
             ranges.for_each(|range| done[range[0] as usize] += 1);
