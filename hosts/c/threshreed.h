@@ -945,7 +945,8 @@ static inline uint32_t tr_read_tour(const ThreshreedHandle clips[THRESHREED_SLOT
  * From left to right, a whole valid command whose number is above that of the last one kept is kept; a valid first or
  * last field and a field that is skipped are passed over; at any other place one byte is dropped. The kept commands,
  * byte for byte, make a fresh file at the front of `out`, which is read by whoever lists their clips. An undamaged file
- * loses none. What only looks like a command may be kept too: the list shows where.
+ * loses none. What only looks like a command may be kept too. A damaged number that is too high shuts out the later
+ * commands up to it, and a byte that has become a skippable tag swallows what its length covers. The list shows where.
  *
  * The list has THRESHREED_RANGE_WORDS words for each range: THRESHREED_KEPT, THRESHREED_PASSED or THRESHREED_DROPPED,
  * its first byte, and the byte behind its last. The ranges cover the file once, in order; bytes that are dropped side

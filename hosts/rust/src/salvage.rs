@@ -22,7 +22,9 @@ pub const fn salvage_words(bytes: usize) -> usize {
 /// From left to right, a whole valid command whose number is above that of the last one kept is kept; a valid first or
 /// last field and a field that is skipped are passed over; at any other place one byte is dropped. The kept commands,
 /// byte for byte, make a fresh file at the front of `out`, which [`read_tour`](crate::read_tour) takes if their clips are
-/// listed. An undamaged file loses none. What only looks like a command may be kept too: the list shows where.
+/// listed. An undamaged file loses none. What only looks like a command may be kept too. A damaged number that is too high
+/// shuts out the later commands up to it, and a byte that has become a skippable tag swallows what its length covers. The
+/// list shows where.
 ///
 /// [`salvage_bytes`] and [`salvage_words`] are always enough for `out` and for the list, and what stands behind the file
 /// and the ranges stays. It is refused, in this order, if more than 4,096 commands are kept, if `out` is too short, and if
