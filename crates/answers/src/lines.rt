@@ -8,7 +8,7 @@ const LAST: u64 = 18446744073709551615;
 const NEWLINE: u8 = 10;
 
 /// The numbers of a line. More than 24 of them, or one of more than 64 bits, cannot be read.
-#[derive(Drop)]
+#[derive(Clone, Copy)]
 pub struct Line {
     pub words: [u64; 24],
     pub count: usize,
@@ -72,7 +72,7 @@ pub fn same(a: Line, b: Line) -> bool
 }
 
 /// A line being read: the numbers before, and the one whose digits are read, if one is.
-#[derive(Drop)]
+#[derive(Clone, Copy)]
 struct Partly {
     line: Line,
     number: u64,
@@ -119,7 +119,7 @@ fn byte(p: Partly, b: u8) -> Partly {
 }
 
 /// A line, and where the next one begins.
-#[derive(Drop)]
+#[derive(Clone, Copy)]
 pub struct Read {
     pub line: Line,
     pub next: usize,

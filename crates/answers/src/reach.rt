@@ -11,7 +11,7 @@ use transport::{LoopRange, TransportState};
 const LAST: u64 = 18446744073709551615;
 
 /// How often each was reached, and where this session retired clips.
-#[derive(Drop)]
+#[derive(Clone, Copy)]
 pub struct Reached {
     pub sessions: u64,
     pub calls: u64,
@@ -104,7 +104,7 @@ fn start_of(s: Session, h: Handle) -> u64 {
 }
 
 /// Where a session retired clips: a bit for each frame of the pool.
-#[derive(Drop)]
+#[derive(Clone, Copy)]
 struct Left {
     words: [u64; 512],
 }

@@ -13,7 +13,7 @@ use submission::{ReplayAnswer, ReplayAnswered, SubmitAnswer, SubmitAnswered};
 use transport::{LoopRange, TransportState};
 
 /// A session, the snapshot that it took last, and how many words its last stop gave.
-#[derive(Drop)]
+#[derive(Clone, Copy)]
 pub struct Seat {
     pub session: Session,
     pub snapshot: PerformanceSnapshot,
@@ -21,7 +21,7 @@ pub struct Seat {
 }
 
 /// What a call did, and its line with our numbers.
-#[derive(Drop)]
+#[derive(Clone, Copy)]
 pub struct Told {
     pub seat: Seat,
     pub ours: Line,

@@ -21,7 +21,7 @@ const TOLD: u64 = 16;
 
 /// Where the walk stands: our side and its first queued frame, what was reached, the line that was read, its number and
 /// the next one's place, how many sessions the first line names, the differences, and whether it is over.
-#[derive(Drop)]
+#[derive(Clone, Copy)]
 struct Walk {
     seat: Seat,
     first: u64,

@@ -18,14 +18,14 @@ pub const LONGEST: u64 = 0x100_0000_0000;
 pub const NOWHERE: u64 = 0xffff_ffff_ffff_ffff;
 
 /// A song has a length, which may go past its samples; a stinger has none.
-#[derive(Drop)]
+#[derive(Clone, Copy)]
 pub enum Kind {
     Song(SongFrame),
     Stinger,
 }
 
 /// A loaded clip: where it lies in the pool, in frames, and what it is.
-#[derive(Drop)]
+#[derive(Clone, Copy)]
 pub struct Clip {
     pub serial: u32,
     pub rate: u32,
@@ -35,7 +35,7 @@ pub struct Clip {
 }
 
 /// The slots: the used ones are marked in one number, and `last` is the last serial given.
-#[derive(Drop)]
+#[derive(Clone, Copy)]
 pub struct Bank {
     pub used: u32,
     pub last: u32,
@@ -43,14 +43,14 @@ pub struct Bank {
 }
 
 /// What a handle stands for: a loaded clip, or none any more.
-#[derive(Drop)]
+#[derive(Clone, Copy)]
 pub enum Found {
     Live(Clip),
     Stale,
 }
 
 /// What the handle that a command or a voice holds stands for: it holds none, its clip is gone, or a clip of a rate.
-#[derive(Drop)]
+#[derive(Clone, Copy)]
 pub enum Stands {
     Nothing,
     Stale,

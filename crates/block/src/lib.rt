@@ -12,21 +12,21 @@ use session::{CLOCK_END, Desk, Refusal, Session, Weighed};
 use stage::{Settings, Stage};
 
 /// The answer of a block: how many times the playhead passed from a loop's end to its start in it.
-#[derive(Drop)]
+#[derive(Clone, Copy)]
 pub enum BlockAnswer {
     Done(u64),
     Refused(Refusal),
 }
 
 /// A block's answer, and the session.
-#[derive(Drop)]
+#[derive(Clone, Copy)]
 pub struct BlockAnswered {
     pub answer: BlockAnswer,
     pub session: Session,
 }
 
 /// What a block makes: its answer, and what it changes of a session, the stage and the depth.
-#[derive(Drop)]
+#[derive(Clone, Copy)]
 pub struct Made {
     pub answer: BlockAnswer,
     pub stage: Stage,

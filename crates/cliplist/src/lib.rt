@@ -13,7 +13,7 @@ use session::Session;
 use stage::Settings;
 
 /// A line of the clip list, in words: slot, serial, kind, rate, frames and a song's length.
-#[derive(Drop)]
+#[derive(Clone, Copy)]
 pub struct Line {
     pub slot: u64,
     pub serial: u64,
@@ -24,7 +24,7 @@ pub struct Line {
 }
 
 /// A listed clip: what a slot holds.
-#[derive(Drop)]
+#[derive(Clone, Copy)]
 pub struct Entry {
     pub handle: Handle,
     pub kind: Kind,
@@ -33,7 +33,7 @@ pub struct Entry {
 }
 
 /// The clips listed so far, side by side in a pool, with the frames of all; or a line that no session has.
-#[derive(Drop)]
+#[derive(Clone, Copy)]
 pub struct Listing {
     pub bank: Bank,
     pub total: u64,
@@ -41,7 +41,7 @@ pub struct Listing {
 }
 
 /// The session of a clip list, if there is one.
-#[derive(Drop)]
+#[derive(Clone, Copy)]
 pub struct Started {
     pub ok: bool,
     pub session: Session,

@@ -23,13 +23,13 @@ use stage::{Counters, Fade, Playhead, Settings, Sound, Stage, Tail};
 use transport::{LoopRange, Transport, TransportState};
 
 /// The answer of opening and of loading: the clip's handle.
-#[derive(Drop)]
+#[derive(Clone, Copy)]
 pub enum LoadAnswer {
     Loaded(Handle),
     Refused(Refusal),
 }
 
-#[derive(Drop)]
+#[derive(Clone, Copy)]
 pub struct LoadAnswered {
     pub answer: LoadAnswer,
     pub session: Session,

@@ -13,20 +13,20 @@ use stage::Stage;
 use transport::{LoopRange, Transport, TransportState};
 
 /// The answer of stopping capture: how many records were copied.
-#[derive(Drop)]
+#[derive(Clone, Copy)]
 pub enum StopAnswer {
     Copied(usize),
     Refused(Refusal),
 }
 
-#[derive(Drop)]
+#[derive(Clone, Copy)]
 pub struct StopAnswered {
     pub answer: StopAnswer,
     pub session: Session,
 }
 
 /// A control snapshot: position, state, the gain that the master is heading for, and the loop.
-#[derive(Drop)]
+#[derive(Clone, Copy)]
 pub struct PerformanceSnapshot {
     pub position: SongFrame,
     pub state: TransportState,
@@ -34,13 +34,13 @@ pub struct PerformanceSnapshot {
     pub looped: LoopRange,
 }
 
-#[derive(Drop)]
+#[derive(Clone, Copy)]
 pub enum SnapshotAnswer {
     Taken(PerformanceSnapshot),
     Refused(Refusal),
 }
 
-#[derive(Drop)]
+#[derive(Clone, Copy)]
 pub struct SnapshotAnswered {
     pub answer: SnapshotAnswer,
     pub session: Session,
@@ -48,7 +48,7 @@ pub struct SnapshotAnswered {
 
 /// Frames rendered, commands executed and dropped, the deepest queue, swaps and stingers fired.
 #[repr(C)]
-#[derive(Drop)]
+#[derive(Clone, Copy)]
 pub struct PerformanceMetrics {
     pub rendered: u64,
     pub executed: u64,
@@ -58,13 +58,13 @@ pub struct PerformanceMetrics {
     pub fired: u64,
 }
 
-#[derive(Drop)]
+#[derive(Clone, Copy)]
 pub enum MetricsAnswer {
     Read(PerformanceMetrics),
     Refused(Refusal),
 }
 
-#[derive(Drop)]
+#[derive(Clone, Copy)]
 pub struct MetricsAnswered {
     pub answer: MetricsAnswer,
     pub session: Session,

@@ -22,7 +22,7 @@ use timeline::Row;
 use tourfile::{Fault, TourAnswer};
 
 /// What a dry run gives: how many commands the tour has, what the replay did with them, and where the run came to.
-#[derive(Drop)]
+#[derive(Clone, Copy)]
 pub struct DryDone {
     pub commands: usize,
     pub report: Report,
@@ -31,7 +31,7 @@ pub struct DryDone {
 
 /// Why a dry run is refused: a clip list that no well formed session could have, a fault of the tour's file, more than 256
 /// commands, or blocks past the clock's end.
-#[derive(Drop)]
+#[derive(Clone, Copy)]
 pub enum DryRefusal {
     Clips,
     Tour(Fault),
@@ -54,14 +54,14 @@ impl DryRefusal {
 }
 
 /// The answer of a dry run. A refusal has a place, the first byte of the field at fault, else 0.
-#[derive(Drop)]
+#[derive(Clone, Copy)]
 pub enum DryAnswer {
     Done(DryDone),
     Refused(DryRefusal, usize),
 }
 
 /// The frames of all blocks together, if they end by clock frame 2^62; else none.
-#[derive(Drop)]
+#[derive(Clone, Copy)]
 pub struct Sum {
     pub ok: bool,
     pub frames: u64,

@@ -3,7 +3,7 @@ use crate::told::case;
 use print::text;
 
 /// What is done with what a case is given: a file to read, or records to write.
-#[derive(Drop)]
+#[derive(Clone, Copy)]
 pub enum Task {
     Read,
     ReadLeft,

@@ -211,7 +211,7 @@ pub fn clip_byte(clips: &[u64; 32], w: u64) -> u8
 // ---- what a command carries
 
 /// What a kind carries behind its number, in one part or two.
-#[derive(Drop)]
+#[derive(Clone, Copy)]
 pub enum Part {
     Nothing,
     Frame,

@@ -27,7 +27,7 @@ pub fn failed(program: &[u8], what: &[u8], name: &[u8]) {
 }
 
 /// Whether a file was read, and how many bytes it has.
-#[derive(Drop)]
+#[derive(Clone, Copy)]
 pub struct Whole {
     pub read: bool,
     pub count: usize,

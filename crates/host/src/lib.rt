@@ -39,7 +39,7 @@ pub const NO_SUCH_CASE: u32 = 255;
 
 /// A clip: `extent` is a song's length, and is not used of a stinger. Nothing is used of a slot that holds none.
 #[repr(C)]
-#[derive(Drop)]
+#[derive(Clone, Copy)]
 pub struct HostClip {
     pub serial: u32,
     pub kind: u32,
@@ -51,7 +51,7 @@ pub struct HostClip {
 
 /// A loop, set (1) or not (0): if not, its ends are not used.
 #[repr(C)]
-#[derive(Drop)]
+#[derive(Clone, Copy)]
 pub struct HostLoop {
     pub set: u32,
     pub start: SongFrame,
@@ -60,7 +60,7 @@ pub struct HostLoop {
 
 /// The tail, sounding (1) or not (0): if not, the rest is not used.
 #[repr(C)]
-#[derive(Drop)]
+#[derive(Clone, Copy)]
 pub struct HostTail {
     pub sounding: u32,
     pub song: Handle,
@@ -70,7 +70,7 @@ pub struct HostTail {
 
 /// A session as a host keeps it. State: 0 stopped, 1 playing, 2 paused; capturing: 0 or 1.
 #[repr(C)]
-#[derive(Drop)]
+#[derive(Clone, Copy)]
 pub struct HostSession {
     pub settings: Settings,
     pub used: u32,
@@ -97,7 +97,7 @@ pub struct HostSession {
 
 /// A command to submit, its kind as in a record; a kind uses the fields that it needs.
 #[repr(C)]
-#[derive(Drop)]
+#[derive(Clone, Copy)]
 pub struct HostCommand {
     pub kind: u32,
     pub gain: f32,
@@ -108,14 +108,14 @@ pub struct HostCommand {
 
 /// When a command is due: 1 at once, 2 at a clock frame, 3 at a song frame.
 #[repr(C)]
-#[derive(Drop)]
+#[derive(Clone, Copy)]
 pub struct HostAt {
     pub kind: u32,
     pub frame: u64,
 }
 
 #[repr(C)]
-#[derive(Drop)]
+#[derive(Clone, Copy)]
 pub struct HostSnapshot {
     pub position: SongFrame,
     pub state: u32,
@@ -125,14 +125,14 @@ pub struct HostSnapshot {
 
 /// The answers: 0 or the number of the refusal, what the call gives, and the session.
 #[repr(C)]
-#[derive(Drop)]
+#[derive(Clone, Copy)]
 pub struct HostAnswered {
     pub refusal: u32,
     pub session: HostSession,
 }
 
 #[repr(C)]
-#[derive(Drop)]
+#[derive(Clone, Copy)]
 pub struct HostLoaded {
     pub refusal: u32,
     pub handle: Handle,
@@ -140,7 +140,7 @@ pub struct HostLoaded {
 }
 
 #[repr(C)]
-#[derive(Drop)]
+#[derive(Clone, Copy)]
 pub struct HostSubmitted {
     pub refusal: u32,
     pub number: u64,
@@ -148,7 +148,7 @@ pub struct HostSubmitted {
 }
 
 #[repr(C)]
-#[derive(Drop)]
+#[derive(Clone, Copy)]
 pub struct HostBlocked {
     pub refusal: u32,
     pub passes: u64,
@@ -156,7 +156,7 @@ pub struct HostBlocked {
 }
 
 #[repr(C)]
-#[derive(Drop)]
+#[derive(Clone, Copy)]
 pub struct HostPumped {
     pub refusal: u32,
     pub frames: usize,
@@ -167,7 +167,7 @@ pub struct HostPumped {
 
 /// A drain is lent no session.
 #[repr(C)]
-#[derive(Drop)]
+#[derive(Clone, Copy)]
 pub struct HostDrained {
     pub refusal: u32,
     pub frames: usize,
@@ -176,7 +176,7 @@ pub struct HostDrained {
 
 /// What a tour's file gives: how many records were read or bytes written, or a fault's number and its place.
 #[repr(C)]
-#[derive(Drop)]
+#[derive(Clone, Copy)]
 pub struct HostTour {
     pub refusal: u32,
     pub count: usize,
@@ -185,7 +185,7 @@ pub struct HostTour {
 
 /// What a salvage gives: commands kept, the fresh file's bytes and ranges, or a fault's number.
 #[repr(C)]
-#[derive(Drop)]
+#[derive(Clone, Copy)]
 pub struct HostSalvage {
     pub refusal: u32,
     pub kept: usize,
@@ -196,7 +196,7 @@ pub struct HostSalvage {
 /// What a dry run gives: how many commands the tour has, how many the replay took, how many were executed and how many are still
 /// queued, and where the playhead is then; or a refusal's number and its place.
 #[repr(C)]
-#[derive(Drop)]
+#[derive(Clone, Copy)]
 pub struct HostDryRun {
     pub refusal: u32,
     pub place: usize,
@@ -213,7 +213,7 @@ pub struct HostDryRun {
 }
 
 #[repr(C)]
-#[derive(Drop)]
+#[derive(Clone, Copy)]
 pub struct HostReplayed {
     pub refusal: u32,
     pub report: Report,
@@ -221,7 +221,7 @@ pub struct HostReplayed {
 }
 
 #[repr(C)]
-#[derive(Drop)]
+#[derive(Clone, Copy)]
 pub struct HostStopped {
     pub refusal: u32,
     pub copied: usize,
@@ -229,7 +229,7 @@ pub struct HostStopped {
 }
 
 #[repr(C)]
-#[derive(Drop)]
+#[derive(Clone, Copy)]
 pub struct HostSnapped {
     pub refusal: u32,
     pub snapshot: HostSnapshot,
@@ -237,7 +237,7 @@ pub struct HostSnapped {
 }
 
 #[repr(C)]
-#[derive(Drop)]
+#[derive(Clone, Copy)]
 pub struct HostMetrics {
     pub refusal: u32,
     pub metrics: PerformanceMetrics,

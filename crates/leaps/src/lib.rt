@@ -13,14 +13,14 @@ use timeline::Row;
 use transport::Transport;
 
 /// Where a dry run stands: the clock and the playhead. Nothing reads its cursor, which stays 0.
-#[derive(Drop)]
+#[derive(Clone, Copy)]
 pub struct Dry {
     pub clock: ClockFrame,
     pub playhead: Playhead,
 }
 
 /// A dry run with so many commands queued and so many rows on its sheet.
-#[derive(Drop)]
+#[derive(Clone, Copy)]
 pub struct Run {
     pub dry: Dry,
     pub queued: usize,

@@ -78,7 +78,7 @@ fn live(s: Session, h: Handle) {
 }
 
 /// A session with its queue and its capture.
-#[derive(Drop)]
+#[derive(Clone, Copy)]
 struct Kept {
     session: Session,
     queue: [u64; 10],

@@ -5,7 +5,7 @@ use crate::scan::{Flaw, Scan, Word};
 pub const PAIRS: usize = 65536;
 
 /// How far the lengths are read: how many words of pairs there are, and what is wrong with the last one.
-#[derive(Drop)]
+#[derive(Clone, Copy)]
 pub struct Blocks {
     pub scan: Scan,
     pub words: usize,

@@ -26,7 +26,7 @@ const STINGER_WORD: u64 = 0x73_7469_6e67_6572;
 
 /// How far a list is read: the mode, whether the head is, whether this line's clip is a song, how many clips there are, and
 /// what is wrong with the last line.
-#[derive(Drop)]
+#[derive(Clone, Copy)]
 pub struct List {
     pub scan: Scan,
     pub mode: u32,

@@ -5,7 +5,7 @@ const LAST: u64 = 18446744073709551615;
 
 /// A word as far as it is read: how many bytes it has, and the last eight of them as one number; the number that its digits
 /// are, or the two that have an `x` between them.
-#[derive(Drop)]
+#[derive(Clone, Copy)]
 pub struct Word {
     pub size: u64,
     pub letters: u64,
@@ -97,7 +97,7 @@ impl Word {
 
 /// How far a text is read: the line of the last byte, from 1, how many words began in it, whether a comment has begun, the
 /// last word, and whether that word and that line ended with the last byte.
-#[derive(Drop)]
+#[derive(Clone, Copy)]
 pub struct Scan {
     pub line: u64,
     pub place: u64,
@@ -192,7 +192,7 @@ impl Scan {
 }
 
 /// What a line or a word of it may lack.
-#[derive(Drop)]
+#[derive(Clone, Copy)]
 pub enum Flaw {
     None,
     NoHead,

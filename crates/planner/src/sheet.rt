@@ -52,7 +52,7 @@ fn head(mode: u32, rate: u64, frames: u64) {
 // ---- the clips
 
 /// How wide the columns of the clips are.
-#[derive(Drop)]
+#[derive(Clone, Copy)]
 struct ClipWidths {
     serial: usize,
     frames: usize,
@@ -342,7 +342,7 @@ fn widest_command(rows: &[u64; ROWS], n: usize) -> usize {
 }
 
 /// How wide the columns of the rows are.
-#[derive(Drop)]
+#[derive(Clone, Copy)]
 struct Widths {
     clock: usize,
     time: usize,

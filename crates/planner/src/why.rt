@@ -7,7 +7,7 @@ use crate::{line, list, said};
 const MOST: u64 = 33554432;
 
 /// What is wrong with a clip's line: the row of its words, and the numbers in them.
-#[derive(Drop)]
+#[derive(Clone, Copy)]
 struct Why {
     row: u64,
     first: u64,

@@ -14,13 +14,13 @@ use stage::{Settings, Stage};
 
 /// The answer of a pump: how many frames were made, and how many times the playhead passed from a loop's end to its
 /// start in them.
-#[derive(Drop)]
+#[derive(Clone, Copy)]
 pub enum PumpAnswer {
     Pumped(usize, u64),
     Refused(Refusal),
 }
 
-#[derive(Drop)]
+#[derive(Clone, Copy)]
 pub struct Pumped {
     pub answer: PumpAnswer,
     pub session: Session,

@@ -9,7 +9,7 @@ ghost use Rattle.remains.specs.Steps.{run_end, next, tally_of};
 use tourfile::{Fault, Progress};
 
 /// A part of the damaged file: 1 kept, 2 passed over, 3 dropped; its first byte, and the one behind its last.
-#[derive(Drop)]
+#[derive(Clone, Copy)]
 pub struct Range {
     pub what: u64,
     pub from: u64,
@@ -17,7 +17,7 @@ pub struct Range {
 }
 
 /// Commands kept, bytes of the fresh file, ranges listed.
-#[derive(Drop)]
+#[derive(Clone, Copy)]
 pub struct Salvaged {
     pub kept: usize,
     pub bytes: usize,
@@ -25,14 +25,14 @@ pub struct Salvaged {
 }
 
 /// What the salvage answers.
-#[derive(Drop)]
+#[derive(Clone, Copy)]
 pub enum SalvageAnswer {
     Done(Salvaged),
     Refused(Fault),
 }
 
 /// What a walk through the file counts: commands kept, their bytes, ranges.
-#[derive(Drop)]
+#[derive(Clone, Copy)]
 pub struct Tally {
     pub kept: usize,
     pub bytes: usize,

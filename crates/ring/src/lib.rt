@@ -15,20 +15,20 @@ pub const MOST: usize = 65536;
 
 /// Where a ring stands in its store: the next place that is read, and the next that is written.
 #[repr(C)]
-#[derive(Drop)]
+#[derive(Clone, Copy)]
 pub struct SampleRing {
     pub head: usize,
     pub tail: usize,
 }
 
 /// The answer of a drain: how many frames it took.
-#[derive(Drop)]
+#[derive(Clone, Copy)]
 pub enum DrainAnswer {
     Drained(usize),
     Refused(Refusal),
 }
 
-#[derive(Drop)]
+#[derive(Clone, Copy)]
 pub struct Drained {
     pub answer: DrainAnswer,
     pub ring: SampleRing,

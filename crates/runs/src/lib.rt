@@ -84,7 +84,7 @@ fn all_still(a: Voice, b: Voice, c: Voice, d: Voice) -> bool
 }
 
 /// Four voices, in firing order.
-#[derive(Drop)]
+#[derive(Clone, Copy)]
 struct Four {
     a: Voice,
     b: Voice,
@@ -287,7 +287,7 @@ fn transport_by(t: Transport, frames: u64, n: usize) -> Transport
 }
 
 /// The master and the tail, so many frames on.
-#[derive(Drop)]
+#[derive(Clone, Copy)]
 struct Over {
     master: Ramp,
     fade: Fade,
@@ -408,7 +408,7 @@ fn tail_ahead(tail: Tail, frames: u64, most: usize) -> usize
 // ---- song, master and tail
 
 /// What makes a frame over the stinger sum: the song, the master and the tail.
-#[derive(Drop)]
+#[derive(Clone, Copy)]
 struct Core {
     playhead: Playhead,
     master: Ramp,
@@ -416,7 +416,7 @@ struct Core {
 }
 
 /// A core a frame on, the frame, and how many times the playhead passed from the loop's end to its start.
-#[derive(Drop)]
+#[derive(Clone, Copy)]
 struct Made {
     core: Core,
     out: Pair,
@@ -424,7 +424,7 @@ struct Made {
 }
 
 /// A core so many frames on, and the passes made in them.
-#[derive(Drop)]
+#[derive(Clone, Copy)]
 struct Gone {
     core: Core,
     frames: usize,
@@ -599,7 +599,7 @@ fn tail_slot(tail: Tail, song: Handle) -> u32
 }
 
 /// A stage so many frames on, and the passes made in them.
-#[derive(Drop)]
+#[derive(Clone, Copy)]
 pub struct Further {
     pub stage: Stage,
     pub frames: usize,

@@ -34,7 +34,7 @@ fn behind(file: &[u8], from: u64) -> &[u8] {
 }
 
 /// Fields that were passed over, and dropped bytes.
-#[derive(Drop)]
+#[derive(Clone, Copy)]
 struct Totals {
     passed: u64,
     dropped: u64,

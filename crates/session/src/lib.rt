@@ -39,7 +39,7 @@ const LAST: u64 = 18446744073709551615;
 
 /// What only calls other than a block change: the last submission number given, the deepest depth, the dropped count,
 /// and whether capture is on, with how many records.
-#[derive(Drop)]
+#[derive(Clone, Copy)]
 pub struct Desk {
     pub number: u64,
     pub deepest: usize,
@@ -49,7 +49,7 @@ pub struct Desk {
 }
 
 /// A session. Its queue, capture and pool are lent with each call.
-#[derive(Drop)]
+#[derive(Clone, Copy)]
 pub struct Session {
     pub settings: Settings,
     pub bank: Bank,
@@ -131,7 +131,7 @@ impl Session {
 }
 
 /// Why a call is refused, in the order of the numbers 1 to 23.
-#[derive(Drop)]
+#[derive(Clone, Copy)]
 pub enum Refusal {
     NotWellFormed,
     PoolLength,
@@ -192,20 +192,20 @@ impl Refusal {
 }
 
 /// What weighing a call finds: the first refusal that holds, or none.
-#[derive(Drop)]
+#[derive(Clone, Copy)]
 pub enum Weighed {
     Fine,
     Refused(Refusal),
 }
 
 /// The answer of a call that gives no value: retire, start capture, apply snapshot.
-#[derive(Drop)]
+#[derive(Clone, Copy)]
 pub enum Answer {
     Done,
     Refused(Refusal),
 }
 
-#[derive(Drop)]
+#[derive(Clone, Copy)]
 pub struct Answered {
     pub answer: Answer,
     pub session: Session,

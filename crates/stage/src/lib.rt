@@ -35,7 +35,7 @@ pub const HOUSE: u32 = 1;
 
 /// Fixed at opening: the rate, the mode, how many records the queue and the capture hold, and the pool's frames.
 #[repr(C)]
-#[derive(Drop)]
+#[derive(Clone, Copy)]
 pub struct Settings {
     pub rate: u32,
     pub mode: u32,
@@ -54,7 +54,7 @@ impl Settings {
 }
 
 /// Where the song stands, and which song it is.
-#[derive(Drop)]
+#[derive(Clone, Copy)]
 pub struct Playhead {
     pub transport: Transport,
     pub song: Handle,
@@ -62,7 +62,7 @@ pub struct Playhead {
 
 /// A playhead a frame on, whether the song plays in that frame, the cursor at which it is read, and how many times it
 /// passed from the loop's end to its start.
-#[derive(Drop)]
+#[derive(Clone, Copy)]
 pub struct Moved {
     pub playhead: Playhead,
     pub playing: bool,
@@ -141,27 +141,27 @@ impl Playhead {
 }
 
 /// The song that a swap left behind: its clip, its cursor and its weight.
-#[derive(Drop)]
+#[derive(Clone, Copy)]
 pub enum Tail {
     None,
     Sounding(Handle, SongFrame, Ramp),
 }
 
 /// The place of the tail.
-#[derive(Drop)]
+#[derive(Clone, Copy)]
 pub struct Fade {
     pub tail: Tail,
 }
 
 /// A tail a frame on, and the frame with its share added.
-#[derive(Drop)]
+#[derive(Clone, Copy)]
 pub struct Faded {
     pub fade: Fade,
     pub out: Pair,
 }
 
 /// What sounds beside the song: the master gain over it, the tail and the voices.
-#[derive(Drop)]
+#[derive(Clone, Copy)]
 pub struct Sound {
     pub master: Ramp,
     pub fade: Fade,
@@ -169,7 +169,7 @@ pub struct Sound {
 }
 
 /// A sound a frame on, and the frame.
-#[derive(Drop)]
+#[derive(Clone, Copy)]
 pub struct Rendered {
     pub sound: Sound,
     pub out: Pair,
@@ -361,7 +361,7 @@ fn tail_from(playhead: Playhead) -> Fade
 
 /// Commands executed, and of them the swaps and the stingers fired.
 #[repr(C)]
-#[derive(Drop)]
+#[derive(Clone, Copy)]
 pub struct Counters {
     pub executed: u64,
     pub swaps: u64,
@@ -397,7 +397,7 @@ impl Counters {
 }
 
 /// The clock is the frames rendered.
-#[derive(Drop)]
+#[derive(Clone, Copy)]
 pub struct Stage {
     pub clock: ClockFrame,
     pub playhead: Playhead,
@@ -406,7 +406,7 @@ pub struct Stage {
 }
 
 /// A stage a frame on, the frame, and how many times the playhead passed from the loop's end to its start.
-#[derive(Drop)]
+#[derive(Clone, Copy)]
 pub struct Framed {
     pub stage: Stage,
     pub out: Pair,

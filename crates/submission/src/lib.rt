@@ -28,7 +28,7 @@ const LAST: u64 = 18446744073709551615;
 
 /// What a command is weighed against: the session's rate, the queue's depth and capacity, whether a running capture has
 /// room, queued stingers + sounding voices, and the last submission number given.
-#[derive(Drop)]
+#[derive(Clone, Copy)]
 pub struct Scales {
     pub rate: u32,
     pub depth: usize,
@@ -39,13 +39,13 @@ pub struct Scales {
 }
 
 /// The answer of a submission and of a transition: the submission number.
-#[derive(Drop)]
+#[derive(Clone, Copy)]
 pub enum SubmitAnswer {
     Queued(u64),
     Refused(Refusal),
 }
 
-#[derive(Drop)]
+#[derive(Clone, Copy)]
 pub struct SubmitAnswered {
     pub answer: SubmitAnswer,
     pub session: Session,
@@ -53,27 +53,27 @@ pub struct SubmitAnswered {
 
 /// What a replay did with its records: taken, queue-full, otherwise skipped.
 #[repr(C)]
-#[derive(Drop)]
+#[derive(Clone, Copy)]
 pub struct Report {
     pub taken: usize,
     pub full: usize,
     pub skipped: usize,
 }
 
-#[derive(Drop)]
+#[derive(Clone, Copy)]
 pub enum ReplayAnswer {
     Replayed(Report),
     Refused(Refusal),
 }
 
-#[derive(Drop)]
+#[derive(Clone, Copy)]
 pub struct ReplayAnswered {
     pub answer: ReplayAnswer,
     pub session: Session,
 }
 
 /// Where a replay stands: the session, and what was done with the records so far.
-#[derive(Drop)]
+#[derive(Clone, Copy)]
 pub struct ReplayState {
     pub session: Session,
     pub report: Report,

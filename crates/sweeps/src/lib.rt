@@ -7,7 +7,7 @@ ghost use Rattle.sweeps.specs.Adds.{share_of, ticks_of, still_adds, stream_adds,
 use ramp::Ramp;
 
 /// Where in the pool a run's samples stand, or that it is silent.
-#[derive(Drop)]
+#[derive(Clone, Copy)]
 pub struct Part {
     pub on: bool,
     pub at: usize,
@@ -51,7 +51,7 @@ fn add_still(pool: &[f32], part: Part, out: &mut [f32], from: usize, to: usize, 
 }
 
 /// Samples of the pool from a place on, × a gain that stands still.
-#[derive(Drop)]
+#[derive(Clone, Copy)]
 pub struct Stream {
     pub at: usize,
     pub gain: f32,
@@ -212,7 +212,7 @@ fn stays_to(ramp: Ramp, j: usize, frames: usize) -> usize
 }
 
 /// The master and the tail's weight.
-#[derive(Drop)]
+#[derive(Clone, Copy)]
 pub struct Gains {
     pub master: Ramp,
     pub weight: Ramp,

@@ -12,7 +12,7 @@ ghost use Rattle.timeline.specs.Queue.{ordered_at, rising_at, entry_ok, stingers
 use counts::{Claim, ClockFrame, Handle, SongFrame};
 
 /// What is executed between two frames.
-#[derive(Drop)]
+#[derive(Clone, Copy)]
 pub enum Command {
     Play,
     Pause,
@@ -101,7 +101,7 @@ pub fn takes_voice(c: Claim) -> bool
 }
 
 /// What the ordinary submission takes: every command but a Transition.
-#[derive(Drop)]
+#[derive(Clone, Copy)]
 pub enum Submission {
     Play,
     Pause,
@@ -134,7 +134,7 @@ impl Submission {
 }
 
 /// A command at its clock frame, with its submission number.
-#[derive(Drop)]
+#[derive(Clone, Copy)]
 pub struct QueueRecord {
     pub at: ClockFrame,
     pub number: u64,
@@ -142,7 +142,7 @@ pub struct QueueRecord {
 }
 
 /// A record as it lies in a lent store: five words, the kind from 1 to 10.
-#[derive(Drop)]
+#[derive(Clone, Copy)]
 pub struct Row {
     pub at: u64,
     pub number: u64,
@@ -167,7 +167,7 @@ impl Row {
 }
 
 /// What reading a row answers: its kind is none of the ten, its gain is one that is refused, or the record.
-#[derive(Drop)]
+#[derive(Clone, Copy)]
 pub enum Reading {
     Unreadable,
     GainRefused,

@@ -2,7 +2,7 @@
 ghost use Rattle.std.specs.Prelude.{◌<◌};
 
 /// How a clip sounds.
-#[derive(Drop)]
+#[derive(Clone, Copy)]
 pub struct Tone {
     /// The saw's period in frames.
     pub period: u32,

@@ -13,7 +13,7 @@ pub const NAVE: Handle = Handle { slot: 1, serial: 2 };
 pub const BELL: Handle = Handle { slot: 2, serial: 3 };
 
 /// One thing that the guide does.
-#[derive(Drop)]
+#[derive(Clone, Copy)]
 pub enum Cue {
     Blocks(u32),
     Submit(Submission, At),
@@ -99,7 +99,7 @@ fn low(i: u32) -> Cue {
 }
 
 /// A stretch of the tour.
-#[derive(Drop)]
+#[derive(Clone, Copy)]
 pub enum Scene {
     Hall,
     Nave,

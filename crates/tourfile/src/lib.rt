@@ -12,7 +12,7 @@ ghost use Rattle.tourfile.specs.Steps.{front_turn, size_of, CanWrite};
 use timeline::Row;
 
 /// Why a tour is not read, or not written.
-#[derive(Drop)]
+#[derive(Clone, Copy)]
 pub enum Fault {
     ListedTwice,
     CutShort,
@@ -58,21 +58,21 @@ impl Fault {
 
 /// What reader and writer answer: how many records or bytes, or a fault with its place, which is a faulty field's first
 /// byte, or the place in the list of a record at fault, else 0.
-#[derive(Drop)]
+#[derive(Clone, Copy)]
 pub enum TourAnswer {
     Done(usize),
     Refused(Fault, usize),
 }
 
 /// How a field or a record is judged.
-#[derive(Drop)]
+#[derive(Clone, Copy)]
 pub enum Judged {
     Fine,
     Faulty(Fault),
 }
 
 /// How far the reader has come: the next field's first byte, the commands before it, and the last one's number.
-#[derive(Drop)]
+#[derive(Clone, Copy)]
 pub struct Progress {
     pub at: usize,
     pub count: usize,
@@ -80,7 +80,7 @@ pub struct Progress {
 }
 
 /// What a field gives: the way on, or the answer.
-#[derive(Drop)]
+#[derive(Clone, Copy)]
 pub enum Turn {
     On(Progress),
     Stop(TourAnswer),

@@ -22,43 +22,43 @@ use transport::At;
 
 // ---- what both calls answered
 
-#[derive(Drop)]
+#[derive(Clone, Copy)]
 pub struct Twice(pub Answered, pub Answered);
 
-#[derive(Drop)]
+#[derive(Clone, Copy)]
 pub struct LoadTwice(pub LoadAnswered, pub LoadAnswered);
 
-#[derive(Drop)]
+#[derive(Clone, Copy)]
 pub struct SubmitTwice(pub SubmitAnswered, pub SubmitAnswered);
 
-#[derive(Drop)]
+#[derive(Clone, Copy)]
 pub struct ReplayTwice(pub ReplayAnswered, pub ReplayAnswered);
 
-#[derive(Drop)]
+#[derive(Clone, Copy)]
 pub struct BlockTwice(pub BlockAnswered, pub BlockAnswered);
 
-#[derive(Drop)]
+#[derive(Clone, Copy)]
 pub struct PumpTwice(pub Pumped, pub Pumped);
 
-#[derive(Drop)]
+#[derive(Clone, Copy)]
 pub struct DrainTwice(pub Drained, pub Drained);
 
-#[derive(Drop)]
+#[derive(Clone, Copy)]
 pub struct TourTwice(pub TourAnswer, pub TourAnswer);
 
-#[derive(Drop)]
+#[derive(Clone, Copy)]
 pub struct SalvageTwice(pub SalvageAnswer, pub SalvageAnswer);
 
-#[derive(Drop)]
+#[derive(Clone, Copy)]
 pub struct DryTwice(pub DryAnswer, pub DryAnswer);
 
-#[derive(Drop)]
+#[derive(Clone, Copy)]
 pub struct StopTwice(pub StopAnswered, pub StopAnswered);
 
-#[derive(Drop)]
+#[derive(Clone, Copy)]
 pub struct SnapshotTwice(pub SnapshotAnswered, pub SnapshotAnswered);
 
-#[derive(Drop)]
+#[derive(Clone, Copy)]
 pub struct MetricsTwice(pub MetricsAnswered, pub MetricsAnswered);
 
 // ---- the calls that change the bank
