@@ -13,10 +13,12 @@ import re
 import sys
 
 ROOT = "crates"
+OWN = tuple(f"Rattle.{crate}." for crate in os.listdir(ROOT))
 WORD = r"[^\s(){}\[\];,.\"`@:]+"
 DECLARED = re.compile(r"^\s*(?:abbrev |unfoldable |transparent |inline )*(?:pub )?(?:pub )?(" + WORD + r") : ", re.M)
 STRING = re.compile(r'"(?:[^"\\\n]|\\.)*"')
 TOKEN = re.compile(WORD)
+USED = re.compile(r"^(?:ghost )?use ([^\s{]+)\.\{([^}]*)\}", re.M)
 # Names that would fall together with another's: the definition has the plain one, and a law about it says so.
 OTHERS = {"linesFit": "all_lines_fit", "open_done": "open_done_law", "held-of": "held_of_law", "row-at": "row_at_law"}
 LAWS = "after-all block-done block-says by-tail clip-at comes-round drain-done four-adds free-slot is-kept is-more is-passed is-stinger land-in load-done load-refused loop-fits minus-zero no-clip over-adds past-clip pump-done pump-refused replay-done ring-ok row-held says-salvage slot-named song-share sooner-by stop-refused submit-refused tail-adds tail-on turned-away with-stores wrap-in holds-row dry-run"
@@ -113,6 +115,9 @@ def main():
             if w not in turned or w in kept:
                 return w
             return turned[w].removesuffix("_law") if m.string[m.start() - 1 : m.start()] == "." else turned[w]
+
+        # what the file takes from the library keeps the library's name
+        kept |= {name for module, names in USED.findall(text) if not module.startswith(OWN) for name in re.split(r"[,\s]+", names)}
 
         def part(piece):
             return TOKEN.sub(word, piece)

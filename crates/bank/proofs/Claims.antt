@@ -3,7 +3,7 @@
 use mathlib.Core.Path.{◌≡◌, refl, sym, ap, ◌∙◌}
 use mathlib.Core.Bool.{Bool, true, false, not, ◌||◌, cond}
 use Prim.Native.Nat.{ℕ, ◌≤◌, ◌^◌}
-use borrow.Author.Tests.{eqb-true, eq-eqb, not_true, not_false}
+use borrow.Author.Tests.{eqb-true, eq-eqb, not-true, not-false}
 use lib.Dec.{eqb}
 use Rattle.counts.specs.Below.{within}
 use Rattle.counts.specs.Handles.{same_handle, claims}
@@ -38,8 +38,8 @@ pub record StingerHeld (b : Bank) (rate : ℕ) (h : Handle) : Type 0 where
 -- where nothing is wrong with a claim its handle is live, its clip of the right kind and rate
 right : (rate : ℕ) (q : Claim) (l : Bool) (k : Kind) (r : ℕ) → let x : Stands = cond l (clip_stands k r) Stands.Stale in not (is_stale x || wrong_kind q x || wrong_rate rate x) ≡ true
     → (l ≡ true) × (wrong_kind q (clip_stands k r) ≡ false) × (r ≡ rate)
-right rate q true (Kind.Song n) r e = let t = or_none (wrong_kind q (Stands.Song r)) (not (eqb r rate)) (not_true _ e) in (refl, t.0, eqb-true r rate (not_false (eqb r rate) t.1))
-right rate q true Kind.Stinger r e = let t = or_none (wrong_kind q (Stands.Stinger r)) (not (eqb r rate)) (not_true _ e) in (refl, t.0, eqb-true r rate (not_false (eqb r rate) t.1))
+right rate q true (Kind.Song n) r e = let t = or_none (wrong_kind q (Stands.Song r)) (not (eqb r rate)) (not-true _ e) in (refl, t.0, eqb-true r rate (not-false (eqb r rate) t.1))
+right rate q true Kind.Stinger r e = let t = or_none (wrong_kind q (Stands.Stinger r)) (not (eqb r rate)) (not-true _ e) in (refl, t.0, eqb-true r rate (not-false (eqb r rate) t.1))
 right rate q false k r e = absurd (never (sym e))
 
 is_song : (k : Kind) (r : ℕ) → stands_stinger (clip_stands k r) ≡ false → (n : SongFrame) × (k ≡ Kind.Song n)

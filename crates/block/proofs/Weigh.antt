@@ -6,7 +6,7 @@ use Prim.Native.Nat.{ℕ, ◌+◌, ◌%◌, ◌^◌, ◌≤◌, ◌<◌}
 use native.Mathlib.Omega.{arith}
 use lib.ListN.{length}
 use lib.Ieee.{Float}
-use borrow.Author.Tests.{not_false, ltb-false, le-ltb, eqb-false}
+use borrow.Author.Tests.{not-false, ltb-false, le-ltb, eqb-false}
 use Rattle.bank.specs.Sample.{frames_of, is_pool, is_odd}
 use Rattle.session.specs.declared.Session.{Session}
 use Rattle.session.specs.declared.Refusal.{Refusal}
@@ -34,8 +34,8 @@ module _ (s : Session) (q c : List ℕ) (pool out : List Float) where
       let p3 = passed _ _ _ p2.1 in
       let p4 = passed _ _ _ p3.1 in
       record {
-        formed = not_false _ p1.0;
-        lent = not_false _ p2.0;
+        formed = not-false _ p1.0;
+        lent = not-false _ p2.0;
         even = p3.0;
         clock = ltb-false (2 ^ 62) (s.stage.clock.0 + frames_of out) p4.0;
       }

@@ -8,7 +8,7 @@ use native.Mathlib.Omega.{arith}
 use lib.Dec.{eqb}
 use lib.ListN.{length}
 use lib.Ieee.{Float}
-use borrow.Author.Tests.{not_false, eqb-true, eqb-false}
+use borrow.Author.Tests.{not-false, eqb-true, eqb-false}
 use Rattle.counts.specs.declared.Handle.{Handle}
 use Rattle.counts.proofs.Truth.{and_l, and_r}
 use Rattle.bank.specs.declared.Kind.{Kind}
@@ -74,13 +74,13 @@ module _ (s : Session) (q c : List ℕ) (pool samples : List Float) (kind : Kind
       let p9 = passed _ _ _ p8.1 in
       let p10 = passed _ _ _ p9.1 in
       let frames = whole_frames samples p3.0 p5.0 in
-      let ranged : rate_ok rate && extent_ok kind (frames_of samples) ≡ true = not_false _ p7.0 in
+      let ranged : rate_ok rate && extent_ok kind (frames_of samples) ≡ true = not-false _ p7.0 in
       record {
-        formed = not_false _ p1.0;
-        lent = not_false _ p2.0;
+        formed = not-false _ p1.0;
+        lent = not-false _ p2.0;
         even = frames.0;
         some = frames.1;
-        sound = not_false _ p6.0;
+        sound = not-false _ p6.0;
         rated = and_l (rate_ok rate) (extent_ok kind (frames_of samples)) ranged;
         lasts = and_r (rate_ok rate) (extent_ok kind (frames_of samples)) ranged;
         slots = eqb-false s.bank.used (2 ^ 32 - 1) p8.0;

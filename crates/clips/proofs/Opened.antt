@@ -8,7 +8,7 @@ use native.Mathlib.Omega.{arith}
 use lib.Dec.{eqb}
 use lib.ListN.{length}
 use lib.Ieee.{Float, le}
-use borrow.Author.Tests.{not_false, eqb-true, ltb-false, le-leb}
+use borrow.Author.Tests.{not-false, eqb-true, ltb-false, le-leb}
 use Rattle.counts.specs.declared.SongFrame.{SongFrame}
 use Rattle.counts.specs.declared.Handle.{Handle}
 use Rattle.counts.specs.Below.{count_below}
@@ -76,18 +76,18 @@ module _ (x : Settings) (q c : List ℕ) (pool samples : List Float) (rate : ℕ
       let p13 = passed _ _ _ p6.1 in
       let p10 = passed _ _ _ p13.1 in
       let frames = whole_frames samples p3.0 p5.0 in
-      let ranged : settings_ok x && rate_ok rate && extent_ok (Kind.Song extent) (frames_of samples) ≡ true = not_false _ p7.0 in
+      let ranged : settings_ok x && rate_ok rate && extent_ok (Kind.Song extent) (frames_of samples) ≡ true = not-false _ p7.0 in
       let numbers : settings_ok x && rate_ok rate ≡ true = and_l (settings_ok x && rate_ok rate) (extent_ok (Kind.Song extent) (frames_of samples)) ranged in
       record {
         settings = and_l (settings_ok x) (rate_ok rate) numbers;
         rated = and_r (settings_ok x) (rate_ok rate) numbers;
         lasts = and_r (settings_ok x && rate_ok rate) (extent_ok (Kind.Song extent) (frames_of samples)) ranged;
-        stores = not_false _ p1.0;
-        lent = not_false _ p2.0;
+        stores = not-false _ p1.0;
+        lent = not-false _ p2.0;
         even = frames.0;
         some = frames.1;
-        sound = not_false _ p6.0;
-        rate_is = eqb-true rate x.rate (not_false _ p13.0);
+        sound = not-false _ p6.0;
+        rate_is = eqb-true rate x.rate (not-false _ p13.0);
         room = ltb-false x.pool (frames_of samples) p10.0;
       }
 

@@ -6,7 +6,7 @@ use mathlib.Core.List.{List}
 use Prim.Native.Nat.{ℕ, ◌^◌, ◌<◌}
 use native.Mathlib.Omega.{arith}
 use lib.Ieee.{Float}
-use borrow.Author.Tests.{not_false}
+use borrow.Author.Tests.{not-false}
 use Rattle.counts.specs.declared.Handle.{Handle}
 use Rattle.counts.specs.Handles.{same_handle}
 use Rattle.counts.proofs.Truth.{two_ways}
@@ -90,7 +90,7 @@ module _ (s : Session) (q c : List ℕ) (h : Handle) where
         let p1 = passed _ _ _ fine in
         let p11 = passed _ _ _ p1.1 in
         let p19 = passed _ _ _ p11.1 in
-        record { formed = not_false _ p1.0; alive = not_false _ p11.0; loose = p19.0 }
+        record { formed = not-false _ p1.0; alive = not-false _ p11.0; loose = p19.0 }
 
     -- it leaves the handle stale
     pub retired_stale : live (retire_of s q c h).session.bank h ≡ false

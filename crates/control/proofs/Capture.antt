@@ -6,7 +6,7 @@ use Prim.Native.Nat.{ℕ, ◌*◌, ◌≤◌, ◌<◌}
 use native.Mathlib.Omega.{arith}
 use lib.ListN.{length, take, drop}
 use lib.Seq.{length-take-le, drop_at}
-use borrow.Author.Tests.{ltb-false, lt-ltb, le-ltb, not_false}
+use borrow.Author.Tests.{ltb-false, lt-ltb, le-ltb, not-false}
 use Rattle.timeline.specs.Queue.{queue}
 use Rattle.timeline.specs.Store.{copied}
 use Rattle.timeline.proofs.Queue.{queue_copied}
@@ -32,7 +32,7 @@ pub fine_room : (s : Session) (q c list : List ℕ) → weigh_stop s q c list �
 unfolding weigh_stop
 fine_room s q c list fine =
     let p1 = passed _ _ _ fine in
-    (ltb-false (length list) (captured_now s.desk * 5) (passed _ _ _ p1.1).0, stored s q c (not_false _ p1.0))
+    (ltb-false (length list) (captured_now s.desk * 5) (passed _ _ _ p1.1).0, stored s q c (not-false _ p1.0))
 
 module _ (s : Session) (q c list : List ℕ) (formed : well_formed s q c ≡ true) where
   -- a list that is too short is refused with 20

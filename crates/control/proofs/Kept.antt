@@ -7,7 +7,7 @@ use Prim.Native.Nat.{ℕ}
 use native.Mathlib.Nat.{min-le_right}
 use native.Mathlib.Omega.{arith}
 use lib.Ieee.{le}
-use borrow.Author.Tests.{le-leb, not_false}
+use borrow.Author.Tests.{le-leb, not-false}
 use Rattle.counts.specs.declared.Claim.{Claim}
 use Rattle.counts.specs.declared.Handle.{Handle}
 use Rattle.counts.proofs.Truth.{and_true, and_r}
@@ -179,12 +179,12 @@ module _ (s : Session) (q c : List ℕ) where
     -- a snapshot that is not refused is for a well formed session,
     apply_found : weigh_apply s q c x ≡ Weighed.Fine → well_formed s q c ≡ true
     unfolding weigh_apply
-    apply_found fine = not_false _ (passed _ _ _ fine).0
+    apply_found fine = not-false _ (passed _ _ _ fine).0
 
     -- and has a gain from 0 to 2
     apply_gain : weigh_apply s q c x ≡ Weighed.Fine → between zero32 two32 x.gain ≡ true
     unfolding weigh_apply
-    apply_gain fine = let p1 = passed _ _ _ fine in not_false _ (passed _ _ _ p1.1).0
+    apply_gain fine = let p1 = passed _ _ _ fine in not-false _ (passed _ _ _ p1.1).0
 
     -- applying one leaves a session as well formed as it was,
     apply_formed : well_formed (apply_of s q c x).session q c ≡ well_formed s q c

@@ -5,7 +5,7 @@ use mathlib.Core.List.{List}
 use Prim.Native.Nat.{ℕ, zero, suc, ◌+◌, ◌-◌, ◌*◌, ◌/◌, ◌%◌, ◌^◌, ◌≤◌, ◌<◌}
 use native.Mathlib.Nat.{zero-add}
 use native.Mathlib.Omega.{arith}
-use borrow.Author.Tests.{eqb-true, ne_eqb, lt-ltb, le-ltb, lt-leb, leb-true, ltb-true, not_false}
+use borrow.Author.Tests.{eqb-true, ne_eqb, lt-ltb, le-ltb, lt-leb, leb-true, ltb-true, not-false}
 use lib.ListN.{length, take, drop, get_or}
 use lib.Seq.{length-take-le, take_at}
 use lib.Dec.{ltb, eqb, eqb-suc-zero}
@@ -176,7 +176,7 @@ unfolding stop_capture_of weigh_stop copied
 stopped s q c list n e =
     let m : ℕ = captured_now s.desk in
     let fine : weigh_stop s q c list ≡ Weighed.Fine = gives_fine {A = StopAnswered × List ℕ} _ _ _ (λ a. says_stop a.0.answer) (λ k. refl) n e in
-    let formed : well_formed s q c ≡ true = not_false _ (passed _ _ _ fine).0 in
+    let formed : well_formed s q c ≡ true = not-false _ (passed _ _ _ fine).0 in
     let room = fine_room s q c list fine in
     let d = stop_done s q c list formed room.0 in
     let k : n ≡ m = let g : ◌≡◌ {A = Says ℕ} (gives m) (gives n) = sym (ap (λ (a : StopAnswered × List ℕ). says_stop a.0.answer) d) ∙ e in cc in

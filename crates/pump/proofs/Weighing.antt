@@ -7,7 +7,7 @@ use native.Mathlib.Omega.{arith}
 use native.Mathlib.Nat.{min-le_right}
 use lib.ListN.{length}
 use lib.Ieee.{Float}
-use borrow.Author.Tests.{not_false, ltb-false, le-ltb}
+use borrow.Author.Tests.{not-false, ltb-false, le-ltb}
 use Rattle.bank.specs.Sample.{is_pool}
 use Rattle.session.specs.declared.Session.{Session}
 use Rattle.session.specs.declared.Refusal.{Refusal}
@@ -57,9 +57,9 @@ module _ (s : Session) (q c : List ℕ) (pool : List Float) (r : SampleRing) (n 
       let p3 = passed _ _ _ p2.1 in
       let p4 = passed _ _ _ p3.1 in
       record {
-        formed = not_false _ p1.0;
-        inside = within n r (not_false _ p2.0);
-        lent = not_false _ p3.0;
+        formed = not-false _ p1.0;
+        inside = within n r (not-false _ p2.0);
+        lent = not-false _ p3.0;
         clock = ltb-false (2 ^ 62) (s.stage.clock.0 + frames_made n r frames) p4.0;
       }
 

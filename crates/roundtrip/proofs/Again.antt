@@ -6,7 +6,7 @@ use mathlib.Core.List.{List, [], ◌∷◌, ◌++◌, append_assoc}
 use Prim.Native.Nat.{ℕ, zero, suc, ◌+◌, ◌<◌, ◌≤◌, ◌^◌}
 use native.Mathlib.Omega.{arith}
 use native.Mathlib.Nat.{zero-add}
-use borrow.Author.Tests.{eqb-true, ne_eqb, lt-ltb, ltb-true, ltb-false, leb-false, not_false}
+use borrow.Author.Tests.{eqb-true, ne_eqb, lt-ltb, ltb-true, ltb-false, leb-false, not-false}
 use lib.ListN.{length, get_or, take, drop, length-drop, take-append-drop}
 use lib.Seq.{take_all, drop-cons}
 use lib.Dec.{leb, ltb, eqb}
@@ -70,27 +70,27 @@ module _ (f : List ℕ) (small : (i : ℕ) → get_or f i 0 < 256) where
     unfolding other_version
     version_same t =
         let h : not (eqb (two f 3) 1) ≡ false = rw t at q.version in
-        rw t at (short_same 1 g (short_size f 1 refl refl t q.size) (eqb-true (two f 3) 1 (not_false (eqb (two f 3) 1) h)))
+        rw t at (short_same 1 g (short_size f 1 refl refl t q.size) (eqb-true (two f 3) 1 (not-false (eqb (two f 3) 1) h)))
 
     last_same : tag_of f ≡ 3 → last_bytes p.count ≡ f
     unfolding wrong_count
     last_same t =
         let h : not (eqb (two f 3) p.count) ≡ false = rw t at q.count in
-        rw t at (short_same p.count g (short_size f 3 refl refl t q.size) (eqb-true (two f 3) p.count (not_false (eqb (two f 3) p.count) h)))
+        rw t at (short_same p.count g (short_size f 3 refl refl t q.size) (eqb-true (two f 3) p.count (not-false (eqb (two f 3) p.count) h)))
 
   -- ---- a command
 
   module _ (clips : List ℕ) (p : Progress) (more : Bool) (q : Passed clips p more f) (t : tag_of f ≡ 2) where
     q_kind : is_kind (kind_in f) ≡ true
     unfolding unknown_kind
-    q_kind = let h : not (is_kind (kind_in f)) ≡ false = rw t at q.kind in not_false (is_kind (kind_in f)) h
+    q_kind = let h : not (is_kind (kind_in f)) ≡ false = rw t at q.kind in not-false (is_kind (kind_in f)) h
 
     q_size : two f 1 ≡ 17 + carried (kind_in f)
     q_size = command_size f t q.size q_kind
 
     q_listed : has_clip (kind_in f) ≡ true → is_listed clips (clip_in f) ≡ true
     unfolding not_listed
-    q_listed c = let h : not (is_listed clips (clip_in f)) ≡ false = rw (t, c) at q.clip in not_false (is_listed clips (clip_in f)) h
+    q_listed c = let h : not (is_listed clips (clip_in f)) ≡ false = rw (t, c) at q.clip in not-false (is_listed clips (clip_in f)) h
 
     q_few : p.count < 4096
     unfolding too_many
@@ -192,7 +192,7 @@ module _ (clips : List ℕ) (n : ℕ) (u : listed_twice clips ≡ false) where
 
     module _ (q : Passed clips p more f) where
       is_field : Field f
-      is_field = front_field rest (not_false (is_whole f) q.whole)
+      is_field = front_field rest (not-false (is_whole f) q.whole)
 
       -- a command in front
       command_step : tag_of f ≡ 2 → Same (record { at = p.at + length f; count = p.count + 1; last = number_in f }) later → Same p rest
@@ -270,7 +270,7 @@ module _ (clips : List ℕ) (n : ℕ) (u : listed_twice clips ≡ false) where
         go Judged.Fine j e =
             let q : Passed clips p more f = fine_passed clips p more f j in
             let o : not (eqb (tag_of f) 1) ≡ false = rw s at q.opens in
-            let t : tag_of f ≡ 1 = eqb-true (tag_of f) 1 (not_false (eqb (tag_of f) 1) o) in
+            let t : tag_of f ≡ 1 = eqb-true (tag_of f) 1 (not-false (eqb (tag_of f) 1) o) in
             let w : weighed clips (record { at = 0 + length f; count = 0; last = 0 }) (fields_of later) ≡ TourAnswer.Done n = rw (t, s) at e in
             (version_same f small clips p more q (is_field q) t, t, rw (zero-add (length f)) at w)
 

@@ -5,7 +5,7 @@ use mathlib.Core.Bool.{true, false, ◌&&◌, ◌||◌, not}
 use mathlib.Core.List.{List}
 use Prim.Native.Nat.{ℕ, ◌+◌, ◌<◌, ◌≤◌}
 use native.Mathlib.Omega.{arith}
-use borrow.Author.Tests.{eqb-true, leb-true, not_false}
+use borrow.Author.Tests.{eqb-true, leb-true, not-false}
 use lib.ListN.{length, get_or, take}
 use lib.Seq.{length-take-le, get_or-take, take_all}
 use lib.Dec.{leb, ltb, eqb}
@@ -23,12 +23,12 @@ module _ (g : List ℕ) where
       let h : ltb (two g 1) 17 || (is_kind (kind_in g) && not (eqb (two g 1) (17 + carried (kind_in g)))) ≡ false = rw t at e in
       let r : is_kind (kind_in g) && not (eqb (two g 1) (17 + carried (kind_in g))) ≡ false = (or_none (ltb (two g 1) 17) (is_kind (kind_in g) && not (eqb (two g 1) (17 + carried (kind_in g)))) h).1 in
       let q : not (eqb (two g 1) (17 + carried (kind_in g))) ≡ false = rw k at r in
-      eqb-true (two g 1) (17 + carried (kind_in g)) (not_false (eqb (two g 1) (17 + carried (kind_in g))) q)
+      eqb-true (two g 1) (17 + carried (kind_in g)) (not-false (eqb (two g 1) (17 + carried (kind_in g))) q)
 
   -- of version and count
   pub short_size : (k : ℕ) → eqb k 2 ≡ false → eqb k 1 || eqb k 3 ≡ true → tag_of g ≡ k → wrong_length g ≡ false → two g 1 ≡ 2
   unfolding wrong_length
-  short_size k n s t e = let h : not (eqb (two g 1) 2) ≡ false = rw (t, n, s) at e in eqb-true (two g 1) 2 (not_false (eqb (two g 1) 2) h)
+  short_size k n s t e = let h : not (eqb (two g 1) 2) ≡ false = rw (t, n, s) at e in eqb-true (two g 1) 2 (not-false (eqb (two g 1) 2) h)
 
 piece_is : (rest : List ℕ) → is_whole rest ≡ true → piece_size rest ≡ 3 + two rest 1
 unfolding piece_size

@@ -5,7 +5,7 @@ use mathlib.Core.Logic.{⊎_elim}
 use mathlib.Core.List.{List, ◌∷◌, ◌++◌}
 use mathlib.Core.Bool.{Bool, true, false}
 use native.Mathlib.Omega.{arith}
-use borrow.Author.Tests.{eqb-true, eqb-false, leb-true, le-leb, not_false}
+use borrow.Author.Tests.{eqb-true, eqb-false, leb-true, le-leb, not-false}
 use lib.ListN.{length, take, drop, length-take, length-drop, length-append, take-append-drop}
 use lib.Seq.{length-take-le, take-take, take-add, drop_at}
 use lib.Dec.{leb, eqb}
@@ -83,7 +83,7 @@ module _ (file : List ℕ) (cut : ℕ) where
       there = let s = (field_within file p.at h).0 in let n = length-take cut file in omega arith
 
       same : field_at rest p.at ≡ f
-      same = same_field p.at h (front_field (drop p.at file) (not_false (is_whole f) q.whole)) l
+      same = same_field p.at h (front_field (drop p.at file) (not-false (is_whole f) q.whole)) l
 
       seen : Passed clips p more (field_at rest p.at)
       seen = rw same q

@@ -4,7 +4,7 @@ use mathlib.Core.Path.{◌≡◌, refl}
 use mathlib.Core.Logic.{⊎_elim}
 use mathlib.Core.List.{List}
 use mathlib.Core.Bool.{Bool, true, false, ◌&&◌, ◌||◌, not}
-use borrow.Author.Tests.{ne_eqb, le-ltb, leb-true, not_false}
+use borrow.Author.Tests.{ne_eqb, le-ltb, leb-true, not-false}
 use lib.ListN.{get_or}
 use lib.Dec.{leb, ltb, eqb}
 use Rattle.counts.proofs.Truth.{never, two_ways}
@@ -30,7 +30,7 @@ module _ (clips : List ℕ) (p : Progress) (more : Bool) (f : List ℕ) (q : Pas
 
   valid : is_valid f ≡ true
   unfolding is_valid
-  valid = rw (not_false (is_whole f) q.whole, q.size, q.version, q.kind, clip_there) refl
+  valid = rw (not-false (is_whole f) q.whole, q.size, q.version, q.kind, clip_there) refl
 
   -- a command is kept,
   pub stands_kept : tag_of f ≡ 2 → is_kept p f ≡ true

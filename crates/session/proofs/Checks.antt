@@ -6,7 +6,7 @@ use Prim.Native.Nat.{ℕ, ◌-◌, ◌*◌, ◌^◌, ◌≤◌}
 use native.Mathlib.Omega.{arith}
 use lib.Dec.{leb, eqb}
 use lib.ListN.{length}
-use borrow.Author.Tests.{leb-true, eqb-true, not_false}
+use borrow.Author.Tests.{leb-true, eqb-true, not-false}
 use Rattle.counts.specs.declared.Claim.{Claim}
 use Rattle.counts.specs.Below.{all_below}
 use Rattle.counts.proofs.Truth.{never, not_true, and_l, and_r, and_true}
@@ -118,7 +118,7 @@ voices_each s =
 
 -- a check that does not fail is passed
 pub passes : {r t : Bool} → r ≡ t → not r ≡ false → t ≡ true
-passes {r} e f = sym e ∙ not_false r f
+passes {r} e f = sym e ∙ not-false r f
 
 module _ (s : Session) (q c : List ℕ) where
   -- a well formed session passes every check

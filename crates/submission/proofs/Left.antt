@@ -6,7 +6,7 @@ use Prim.Native.Nat.{ℕ, ◌+◌, ◌-◌, ◌^◌, ◌<◌, min}
 use native.Mathlib.Omega.{arith}
 use native.Mathlib.Numerals.{add-one}
 use lib.Dec.{leb, eqb}
-use borrow.Author.Tests.{leb-false, not_false as not-off}
+use borrow.Author.Tests.{leb-false, not-false as not-off}
 use Rattle.laws.specs.Order.{insert_by, without}
 use Rattle.counts.specs.declared.SongFrame.{SongFrame}
 use Rattle.counts.proofs.Truth.{not_true, never}

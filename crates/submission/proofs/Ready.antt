@@ -6,7 +6,7 @@ use Prim.Native.Nat.{ℕ, ◌+◌, ◌-◌, ◌*◌, ◌^◌, ◌≤◌, ◌<◌
 use native.Mathlib.Omega.{arith}
 use native.Mathlib.Numerals.{add-one}
 use lib.ListN.{length}
-use borrow.Author.Tests.{not_false}
+use borrow.Author.Tests.{not-false}
 use Rattle.timeline.specs.declared.Command.{Command}
 use Rattle.timeline.specs.declared.Row.{Row}
 use Rattle.timeline.specs.Command.{gain_ok}
@@ -31,7 +31,7 @@ use Rattle.submission.proofs.Reported.{replayed_told}
 -- a call that is not refused has a well formed session, and the later tests refuse nothing
 pub not_refused : (s : Session) (q c : List ℕ) (rest : Weighed) → first (not (well_formed s q c)) Refusal.NotWellFormed rest ≡ Weighed.Fine
     → (well_formed s q c ≡ true) × (rest ≡ Weighed.Fine)
-not_refused s q c rest e = let a = passed _ _ _ e in (not_false _ a.0, a.1)
+not_refused s q c rest e = let a = passed _ _ _ e in (not-false _ a.0, a.1)
 
 -- a queue with room for a command that fits has the five words for its record
 pub record_room : (s : Session) (q : List ℕ) → length q ≡ s.settings.queue * 5 → s.queued < s.settings.queue → s.queued * 5 + 5 ≤ length q
@@ -40,7 +40,7 @@ record_room s q size depth = omega arith
 -- a record that is not refused is readable, and its command fits
 pub taken_fits : (s : Session) (q : List ℕ) (x : Row) → weigh_replayed s q x ≡ Weighed.Fine → (readable x ≡ true) × Fits s q true (read_of x)
 unfolding weigh_replayed
-taken_fits s q x e = let a = passed _ _ _ e in (not_false _ a.0, fine_fits s q true (read_of x) a.1)
+taken_fits s q x e = let a = passed _ _ _ e in (not-false _ a.0, fine_fits s q true (read_of x) a.1)
 
 module _ (s : Session) (q c : List ℕ) (e : well_formed s q c ≡ true) where
   -- the queued records lie in their store, and queued stingers + sounding voices are at most 16

@@ -3,7 +3,7 @@ use mathlib.Core.Path.{refl, sym, ap, ◌∙◌}
 use mathlib.Core.Bool.{not}
 use native.Mathlib.Omega.{arith}
 use borrow.Author.Rules.{rules}
-use borrow.Author.Tests.{not_false, lt-ltb, le-ltb}
+use borrow.Author.Tests.{not-false, lt-ltb, le-ltb}
 use Rattle.session.proofs.Parts.{parts}
 use Rattle.block.specs.Block.{of_parts, weigh_block}
 use Rattle.session.proofs.Refuse.{stop, skip}
@@ -39,7 +39,7 @@ frames-of-requires c κs = search rules
 add-if4 : tie.Need-overflow-add-if4
 add-if4 c =
     let a = c.before.before.before.before.before.before.before.before.before.before.before.before in
-    let w = sym c.before.before.before.before.before.before.before.formed.ensures ∙ not_false _ c.before.before.before.before.before.before.if1.false in
+    let w = sym c.before.before.before.before.before.before.before.formed.ensures ∙ not-false _ c.before.before.before.before.before.before.if1.false in
     omega (arith, (parts (of_parts a.args.settings a.args.bank a.args.stage a.args.queued a.args.desk) a.args.queue.now a.args.capture.now w).clock, c.before.frames-of.ensures, a.well-formed.1.1.1.1.1.1.1.1.0)
 
 returns-4 : tie.Need-returns-4

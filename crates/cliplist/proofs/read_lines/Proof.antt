@@ -4,7 +4,7 @@ use mathlib.Core.Bool.{true}
 use Prim.Native.Nat.{◌+◌, ◌-◌, ◌≤◌}
 use native.Mathlib.Omega.{arith}
 use borrow.Author.Rules.{rules}
-use borrow.Author.Tests.{not_false}
+use borrow.Author.Tests.{not-false}
 use Rattle.counts.proofs.Truth.{not_true}
 use Rattle.cliplist.specs.Words.{all_lines_fit, Lined}
 use Rattle.cliplist.proofs.Lines.{lined_none, lined_stop}
@@ -39,7 +39,7 @@ loop-less : tie.Need-loop-smaller invariant-loop decreases-loop
 loop-less c = search rules
 
 loop-again : tie.Need-loop-preserved invariant-loop decreases-loop
-loop-again c = let o = c.before.before.list-line.ensures in (search rules, sym o.ok ∙ not_false _ c.if1.false, o)
+loop-again c = let o = c.before.before.list-line.ensures in (search rules, sym o.ok ∙ not-false _ c.if1.false, o)
 
 returns-2 : tie.Need-returns-2 invariant-loop decreases-loop
 returns-2 c = let l = c.before.loop in let z : l.i ≡ c.before.before.before.before.args.lines = omega arith in rw z at l.invariant.2

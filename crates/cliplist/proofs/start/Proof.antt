@@ -2,7 +2,7 @@
 use mathlib.Core.Path.{◌≡◌, sym, ◌∙◌}
 use mathlib.Core.Bool.{false, ◌&&◌}
 use borrow.Author.Rules.{rules}
-use borrow.Author.Tests.{not_false}
+use borrow.Author.Tests.{not-false}
 use Rattle.counts.proofs.Truth.{and_true, and_false_l, and_false_r, not_true}
 use Rattle.cliplist.specs.Words.{lines_in, is_list, all_lines_fit, clips_ok}
 use Rattle.cliplist.proofs.Lines.{start_refused, start_accepted}
@@ -38,7 +38,7 @@ returns-2 c =
 session-of-requires : tie.Need-session-of-requires
 session-of-requires c κs =
     let o = c.before.before.read-lines.ensures in
-    (sym c.before.before.before.before.is-list.ensures ∙ not_false _ c.before.before.before.if1.false, sym o.ok ∙ not_false _ c.if2.false, o)
+    (sym c.before.before.before.before.is-list.ensures ∙ not-false _ c.before.before.before.if1.false, sym o.ok ∙ not-false _ c.if2.false, o)
 
 is-formed-requires : tie.Need-is-formed-requires
 is-formed-requires c κs = search rules
@@ -57,9 +57,9 @@ returns-4 : tie.Need-returns-4
 unfolding clips_ok
 returns-4 c =
     let a = c.before.before.before.before.before.before.before.before.before.args in
-    let whole = sym c.before.before.before.before.before.before.before.is-list.ensures ∙ not_false _ c.before.before.before.before.before.before.if1.false in
-    let fit = sym c.before.before.before.before.before.read-lines.ensures.ok ∙ not_false _ c.before.before.before.if2.false in
-    let formed = not_false _ (rw (c.before.is-formed.ensures, c.before.before.session-of.ensures) at c.if3.false) in
+    let whole = sym c.before.before.before.before.before.before.before.is-list.ensures ∙ not-false _ c.before.before.before.before.before.before.if1.false in
+    let fit = sym c.before.before.before.before.before.read-lines.ensures.ok ∙ not-false _ c.before.before.before.if2.false in
+    let formed = not-false _ (rw (c.before.is-formed.ensures, c.before.before.session-of.ensures) at c.if3.false) in
     rw c.before.before.session-of.ensures (start_accepted a.mode a.words.now (and_true (and_true whole fit) formed))
 
 pub start_spec : {M : Type 1} → statement M

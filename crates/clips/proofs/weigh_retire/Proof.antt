@@ -2,7 +2,7 @@
 use mathlib.Core.Path.{refl, sym, ap, ◌∙◌}
 use mathlib.Core.Bool.{not}
 use native.Mathlib.Omega.{arith}
-use borrow.Author.Tests.{not_false}
+use borrow.Author.Tests.{not-false}
 use Rattle.session.proofs.Parts.{parts}
 use Rattle.session.proofs.Refuse.{stop, skip}
 use Rattle.clips.specs.Retire.{weigh_retire}
@@ -31,7 +31,7 @@ held-now-requires : tie.Need-held-now-requires
 held-now-requires c κs =
     let c1 = c.before.before in
     let a = c.before.before.before.before.before.before.args in
-    let p = parts a.s a.queue.now a.capture.now (sym c1.before.well-formed-2.ensures ∙ not_false _ c1.if1.false) in
+    let p = parts a.s a.queue.now a.capture.now (sym c1.before.well-formed-2.ensures ∙ not-false _ c1.if1.false) in
     (p.voices, omega arith, omega arith)
 
 returns-3 : tie.Need-returns-3

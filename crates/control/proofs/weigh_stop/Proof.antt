@@ -2,7 +2,7 @@
 use mathlib.Core.Path.{refl, sym, ap, ◌∙◌}
 use mathlib.Core.Bool.{not}
 use native.Mathlib.Omega.{arith}
-use borrow.Author.Tests.{not_false, lt-ltb, le-ltb}
+use borrow.Author.Tests.{not-false, lt-ltb, le-ltb}
 use Rattle.session.proofs.Refuse.{stop, skip}
 use Rattle.control.specs.Capture.{weigh_stop}
 use Rattle.control.proofs.Capture.{stored}
@@ -22,7 +22,7 @@ captured-now-requires c κs = search rules
 
 mul-places : tie.Need-overflow-mul-places
 mul-places c =
-    let formed = sym c.before.before.before.well-formed-2.ensures ∙ not_false _ c.before.before.if1.false in
+    let formed = sym c.before.before.before.well-formed-2.ensures ∙ not-false _ c.before.before.if1.false in
     omega (arith, stored _ _ _ formed)
 
 returns-2 : tie.Need-returns-2

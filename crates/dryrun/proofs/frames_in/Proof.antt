@@ -2,7 +2,7 @@
 use mathlib.Core.Path.{◌≡◌, ap, ◌∙◌}
 use Prim.Native.Nat.{◌+◌, ◌-◌, ◌*◌, ◌^◌, ◌≤◌}
 use native.Mathlib.Omega.{arith}
-use borrow.Author.Tests.{not_false}
+use borrow.Author.Tests.{not-false}
 use lib.ListN.{drop}
 use Rattle.counts.proofs.Truth.{not_true}
 use Rattle.dryrun.specs.Blocks.{frames_in, sum_to}
@@ -55,7 +55,7 @@ loop-less c = search rules
 loop-again : tie.Need-loop-preserved invariant-loop decreases-loop
 loop-again c =
     let l = c.before.before.before.before.before.before.loop in
-    let w = pair_within _ l.k l.sum (omega arith) l.invariant.2 _ c.before.before.add-block.ensures (not_false _ c.if1.false) in
+    let w = pair_within _ l.k l.sum (omega arith) l.invariant.2 _ c.before.before.add-block.ensures (not-false _ c.if1.false) in
     (search rules, w.0, w.1)
 
 returns-2 : tie.Need-returns-2 invariant-loop decreases-loop

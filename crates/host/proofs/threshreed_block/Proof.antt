@@ -4,7 +4,7 @@ use mathlib.Core.Bool.{not}
 use mathlib.Core.List.{map}
 use Prim.Native.Nat.{◌-◌}
 use lib.ListN.{length, length-map}
-use borrow.Author.Tests.{not_true, not_false}
+use borrow.Author.Tests.{not-true, not-false}
 use Rattle.host.specs.Kept.{clip_numbers, is_session, session_of}
 use Rattle.host.proofs.Parts.{Converting, convert_start, convert_turn, convert_bank, convert_numbers, convert_named, block_unmatched, block_matched}
 use borrow.Author.Rules.{rules}
@@ -90,7 +90,7 @@ its_clips c = convert_numbers _ (slots (begun c)) _ _ _ _ c.before.before.loop.i
 
 returns : tie.Need-returns invariant-loop decreases-loop
 returns c =
-    rw c.block_refused.ensures (block_unmatched _ _ _ _ _ (not_true _ (ap not (sym (known c.before.before)) ∙ c.before.if1.true)))
+    rw c.block_refused.ensures (block_unmatched _ _ _ _ _ (not-true _ (ap not (sym (known c.before.before)) ∙ c.before.if1.true)))
 
 stage-of-requires : tie.Need-stage-of-requires invariant-loop decreases-loop
 stage-of-requires c κs = search rules
@@ -124,7 +124,7 @@ returns-2 c =
     let made = c.before.before.before.before.before.before.before in
     let past = made.before.before.before.before.before in
     rw (c.kept.ensures past.before.before.before.loop.bank.clips (its_clips past.before))
-    (block_matched _ _ _ _ _ _ _ _ _ _ _ _ _ (not_false _ (ap not (sym (known past.before)) ∙ past.if1.false)) (its_bank past.before) made.before.before.before.stage-of.ensures made.before.before.desk-of.ensures
+    (block_matched _ _ _ _ _ _ _ _ _ _ _ _ _ (not-false _ (ap not (sym (known past.before)) ∙ past.if1.false)) (its_bank past.before) made.before.before.before.stage-of.ensures made.before.before.desk-of.ensures
     c.before.before.answer.given.1
     made.make.ensures)
 
@@ -136,7 +136,7 @@ returns-3 c =
     let made = c.before.before.before.before.before.before.before.before in
     let past = made.before.before.before.before.before in
     rw (c.block-refused2.ensures, c.before.number.ensures)
-    (block_matched _ _ _ _ _ _ _ _ _ _ _ _ _ (not_false _ (ap not (sym (known past.before)) ∙ past.if1.false)) (its_bank past.before) made.before.before.before.stage-of.ensures made.before.before.desk-of.ensures
+    (block_matched _ _ _ _ _ _ _ _ _ _ _ _ _ (not-false _ (ap not (sym (known past.before)) ∙ past.if1.false)) (its_bank past.before) made.before.before.before.stage-of.ensures made.before.before.desk-of.ensures
     c.before.before.before.answer2.given.1
     made.make.ensures)
 

@@ -1,7 +1,7 @@
 -- `weigh` meets its contract: each return is past the tests before it.
 use mathlib.Core.Path.{◌≡◌, sym, ap, ◌∙◌}
 use mathlib.Core.Bool.{true, not}
-use borrow.Author.Tests.{not_true, not_false}
+use borrow.Author.Tests.{not-true, not-false}
 use Rattle.host.specs.Kept.{is_session}
 use Rattle.host.specs.Answers.{weigh_host}
 use borrow.Author.Rules.{rules}
@@ -10,14 +10,14 @@ use Rattle.host.proofs.weigh.Tie as tie
 
 -- past the first test a session matches
 matched : (c : tie.Else1) → is_session c.before.before.before.before.args.h ≡ true
-matched c = not_false (is_session c.before.before.before.before.args.h) (ap not (sym c.before.is-session.ensures) ∙ c.if1.false)
+matched c = not-false (is_session c.before.before.before.before.args.h) (ap not (sym c.before.is-session.ensures) ∙ c.if1.false)
 
 is-session-requires : tie.Need-is-session-requires
 is-session-requires c κs = search rules
 
 returns : tie.Need-returns
 unfolding weigh_host
-returns c = simp (not_true (is_session c.before.before.before.before.args.h) (ap not (sym c.before.is-session.ensures) ∙ c.if1.true))
+returns c = simp (not-true (is_session c.before.before.before.before.args.h) (ap not (sym c.before.is-session.ensures) ∙ c.if1.true))
 
 returns-2 : tie.Need-returns-2
 unfolding weigh_host

@@ -13,7 +13,7 @@ use lib.ListN.{length, get_or, set}
 use lib.WfN.{lt-wf_rel}
 use lib.Dec.{T as Tr, lit<, ltb→lt, nltb→le}
 use lib.Ieee.{Float, binary32, of_bits, fits as float_fits}
-use borrow.Author.Tests.{lt-ltb, le-ltb, not_true}
+use borrow.Author.Tests.{lt-ltb, le-ltb, not-true}
 use seplogic.Ra.Ura.{Ura}
 use seplogic.Ra.TreeShare.{full_share}
 use mir.Syntax.{Ty, Body, named, mut, imm, w8, w64, ty_int, ty_float, Fn, local, value_local, ty_bool, ty_ptr, ty_ref, loop, assign, place, op2, add, unsigned, copy, int, seq, return, aggregate}
@@ -106,7 +106,7 @@ holds true _ = refl
 holds false a = absurd a
 
 fails : (t : Bool) → Tr (not t) → t ≡ false
-fails t a = not_true t (holds (not t) a)
+fails t a = not-true t (holds (not t) a)
 
 zero_is : of_bits binary32 0 ≡ zero32
 unfolding of_bits

@@ -3,7 +3,7 @@ use mathlib.Core.Path.{refl, sym, ap, ◌∙◌}
 use mathlib.Core.Bool.{not}
 use native.Mathlib.Omega.{arith}
 use borrow.Author.Rules.{rules}
-use borrow.Author.Tests.{not_false, lt-ltb, le-ltb}
+use borrow.Author.Tests.{not-false, lt-ltb, le-ltb}
 use Rattle.session.proofs.Parts.{parts}
 use Rattle.session.proofs.Refuse.{stop, skip}
 use Rattle.ring.specs.Ring.{Within}
@@ -15,7 +15,7 @@ use Rattle.pump.proofs.weigh_pump.Tie as tie
 
 -- past its test the ring is within its store
 inside : (c : tie.Else2) → let a = c.before.before.before.before.before.before.before.args in Within a.size a.r
-inside c = within _ _ (sym c.before.is_Within.ensures ∙ not_false _ c.if2.false)
+inside c = within _ _ (sym c.before.is_Within.ensures ∙ not-false _ c.if2.false)
 
 well-formed-requires : tie.Need-well-formed-requires
 well-formed-requires c κs = search rules
@@ -49,7 +49,7 @@ frames-made-requires c κs = inside c.before.before
 add-if4 : tie.Need-overflow-add-if4
 add-if4 c =
     let a = c.before.before.before.before.before.before.before.before.before.before.before.args in
-    let w = sym c.before.before.before.before.before.before.before.well-formed-2.ensures ∙ not_false _ c.before.before.before.before.before.before.if1.false in
+    let w = sym c.before.before.before.before.before.before.before.well-formed-2.ensures ∙ not-false _ c.before.before.before.before.before.before.if1.false in
     omega (arith, (parts a.s a.queue.now a.capture.now w).clock, c.before.frames-made.ensures, made_small _ _ a.frames (inside c.before.before.before.before))
 
 returns-4 : tie.Need-returns-4

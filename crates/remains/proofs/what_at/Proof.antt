@@ -1,7 +1,7 @@
 -- `what_at` meets its contract.
 use mathlib.Core.Path.{sym, ap, ◌∙◌}
 use mathlib.Core.Bool.{not}
-use borrow.Author.Tests.{not_false}
+use borrow.Author.Tests.{not-false}
 use lib.Seq.{length-take-le}
 use Rattle.counts.proofs.Truth.{not_true}
 use Rattle.fields.proofs.Fields.{piece_within}
@@ -41,7 +41,7 @@ returns-2 : tie.Need-returns-2
 returns-2 c =
     let a = c.before.before.before.before.before.before.before.before.args in
     let f = piece_at a.file.now a.p.at c.before.before.before.before.before.piece-size.result c.before.before.before.before.before.piece-size.ensures in
-    sym (what_rises a.file.now a.p _ f (not_false _ (ap not (sym c.before.before.before.is-valid.ensures) ∙ c.before.before.if1.false)) (sym c.before.rises.ensures ∙ c.if2.true))
+    sym (what_rises a.file.now a.p _ f (not-false _ (ap not (sym c.before.before.before.is-valid.ensures) ∙ c.before.before.if1.false)) (sym c.before.rises.ensures ∙ c.if2.true))
 
 is-other-requires : tie.Need-is-other-requires
 is-other-requires c κs = search rules
@@ -50,14 +50,14 @@ returns-3 : tie.Need-returns-3
 returns-3 c =
     let a = c.before.before.before.before.before.before.before.before.before.before.args in
     let f = piece_at a.file.now a.p.at c.before.before.before.before.before.before.before.piece-size.result c.before.before.before.before.before.before.before.piece-size.ensures in
-    sym (what_other a.file.now a.p _ f (not_false _ (ap not (sym c.before.before.before.before.before.is-valid.ensures) ∙ c.before.before.before.before.if1.false))
+    sym (what_other a.file.now a.p _ f (not-false _ (ap not (sym c.before.before.before.before.before.is-valid.ensures) ∙ c.before.before.before.before.if1.false))
     (sym c.before.before.before.rises.ensures ∙ c.before.before.if2.false) (sym c.before.is-other.ensures ∙ c.if3.true))
 
 returns-4 : tie.Need-returns-4
 returns-4 c =
     let a = c.before.before.before.before.before.before.before.before.before.before.args in
     let f = piece_at a.file.now a.p.at c.before.before.before.before.before.before.before.piece-size.result c.before.before.before.before.before.before.before.piece-size.ensures in
-    sym (what_none a.file.now a.p _ f (not_false _ (ap not (sym c.before.before.before.before.before.is-valid.ensures) ∙ c.before.before.before.before.if1.false))
+    sym (what_none a.file.now a.p _ f (not-false _ (ap not (sym c.before.before.before.before.before.is-valid.ensures) ∙ c.before.before.before.before.if1.false))
     (sym c.before.before.before.rises.ensures ∙ c.before.before.if2.false) (sym c.before.is-other.ensures ∙ c.if3.false))
 
 pub what-at-spec : {M : Type 1} → statement M

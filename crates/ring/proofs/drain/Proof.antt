@@ -3,7 +3,7 @@ use mathlib.Core.Path.{◌≡◌, sym, ap, ◌∙◌}
 use Prim.Native.Nat.{ℕ, ◌/◌, min}
 use native.Mathlib.Omega.{arith}
 use borrow.Author.Rules.{rules}
-use borrow.Author.Tests.{not_true, not_false}
+use borrow.Author.Tests.{not-true, not-false}
 use lib.ListN.{length}
 use Rattle.ring.specs.Ring.{Within}
 use Rattle.ring.specs.Drain.{whole_of, drain_of}
@@ -14,7 +14,7 @@ use Rattle.ring.proofs.drain.Tie as tie
 
 -- past the test the ring is within its store
 inside : (c : tie.Else1) → let a = c.before.before.before.before.args in Within (length a.store.now) a.r
-inside c = within _ _ (sym c.before.is_Within.ensures ∙ not_false _ c.if1.false)
+inside c = within _ _ (sym c.before.is_Within.ensures ∙ not-false _ c.if1.false)
 
 -- so many frames are taken
 whole : (c : tie.After-lesser) → let a = c.before.before.before.before.before.before.args in c.lesser.result ≡ whole_of (length a.store.now) a.r (length a.out.now)
@@ -27,7 +27,7 @@ is-within-requires c κs = search rules
 
 returns : tie.Need-returns
 unfolding drain_of
-returns c = simp (sym c.before.is_Within.ensures ∙ not_true _ c.if1.true)
+returns c = simp (sym c.before.is_Within.ensures ∙ not-true _ c.if1.true)
 
 held-requires : tie.Need-held-requires
 held-requires c κs = inside c

@@ -4,7 +4,7 @@ use mathlib.Core.Bool.{true}
 use Prim.Native.Nat.{◌+◌, ◌-◌, ◌≤◌}
 use native.Mathlib.Omega.{arith}
 use lib.ListN.{length, length-map}
-use borrow.Author.Tests.{not_true}
+use borrow.Author.Tests.{not-true}
 use Rattle.timeline.specs.Command.{claim_of}
 use Rattle.timeline.specs.Record.{read_of}
 use Rattle.timeline.specs.Queue.{rising_at}
@@ -55,7 +55,7 @@ rising-at-requires c κs = search rules
 returns : tie.Need-returns invariant-loop decreases-loop
 returns c =
     let a = c.before.before.before.before.before.args in
-    sym (order_stops a.t1 a.rate a.last (rising_at a.store.now) a.store.now c.before.before.before.loop.i a.n c.before.before.loop-test.true (sym c.before.rising-at.ensures ∙ not_true _ c.if1.true))
+    sym (order_stops a.t1 a.rate a.last (rising_at a.store.now) a.store.now c.before.before.before.loop.i a.n c.before.before.loop-test.true (sym c.before.rising-at.ensures ∙ not-true _ c.if1.true))
 
 row-at-requires : tie.Need-row-at-requires invariant-loop decreases-loop
 row-at-requires c κs = search rules
@@ -66,7 +66,7 @@ entry-ok-requires c κs = search rules
 returns-2 : tie.Need-returns-2 invariant-loop decreases-loop
 returns-2 c =
     let a = c.before.before.before.before.before.before.before.before.args in
-    sym (entry_stops a.t1 a.rate a.last (rising_at a.store.now) a.store.now c.before.before.before.before.before.before.loop.i _ c.before.before.row_at.ensures a.n c.before.before.before.before.before.loop-test.true (sym c.before.entry-ok.ensures ∙ not_true _ c.if2.true))
+    sym (entry_stops a.t1 a.rate a.last (rising_at a.store.now) a.store.now c.before.before.before.before.before.before.loop.i _ c.before.before.row_at.ensures a.n c.before.before.before.before.before.loop-test.true (sym c.before.entry-ok.ensures ∙ not-true _ c.if2.true))
 
 holds-clip-requires : tie.Need-holds-clip-requires invariant-loop decreases-loop
 holds-clip-requires c κs = search rules
@@ -90,7 +90,7 @@ returns-3 : tie.Need-returns-3 invariant-loop decreases-loop
 returns-3 c =
     let p = c.before.before.before.before.before.before.before in
     let a = (from p).args in
-    sym (claim_stops a.t1 a.rate a.last (rising_at a.store.now) a.store.now (upto p).loop.i _ p.before.before.row_at.ensures a.n p.before.before.before.before.before.loop-test.true (sym (found c.before) ∙ not_true _ c.if4.true))
+    sym (claim_stops a.t1 a.rate a.last (rising_at a.store.now) a.store.now (upto p).loop.i _ p.before.before.row_at.ensures a.n p.before.before.before.before.before.loop-test.true (sym (found c.before) ∙ not-true _ c.if4.true))
 
 add-i : tie.Need-overflow-add-i invariant-loop decreases-loop
 add-i c = search rules

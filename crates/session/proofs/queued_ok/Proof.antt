@@ -5,7 +5,7 @@ use Prim.Native.Nat.{◌+◌, ◌-◌, ◌≤◌}
 use native.Mathlib.Omega.{arith}
 use lib.Dec.{leb, eqb}
 use lib.ListN.{length, length-map}
-use borrow.Author.Tests.{not_true}
+use borrow.Author.Tests.{not-true}
 use Rattle.counts.proofs.Truth.{and_false_l}
 use Rattle.timeline.specs.Command.{claim_of}
 use Rattle.timeline.specs.Record.{read_of}
@@ -57,7 +57,7 @@ ordered-at-requires c κs = search rules
 returns : tie.Need-returns invariant-loop decreases-loop
 returns c =
     let a = c.before.before.before.before.before.args in
-    sym (and_false_l (leb (stingers a.store.now a.n) a.most) (order_stops a.t1 a.rate a.last (ordered_at a.store.now) a.store.now c.before.before.before.loop.j a.n c.before.before.loop-test.true (sym c.before.ordered_at.ensures ∙ not_true _ c.if1.true)))
+    sym (and_false_l (leb (stingers a.store.now a.n) a.most) (order_stops a.t1 a.rate a.last (ordered_at a.store.now) a.store.now c.before.before.before.loop.j a.n c.before.before.loop-test.true (sym c.before.ordered_at.ensures ∙ not-true _ c.if1.true)))
 
 row-at-requires : tie.Need-row-at-requires invariant-loop decreases-loop
 row-at-requires c κs = search rules
@@ -68,7 +68,7 @@ entry-ok-requires c κs = search rules
 returns-2 : tie.Need-returns-2 invariant-loop decreases-loop
 returns-2 c =
     let a = c.before.before.before.before.before.before.before.before.args in
-    sym (and_false_l (leb (stingers a.store.now a.n) a.most) (entry_stops a.t1 a.rate a.last (ordered_at a.store.now) a.store.now c.before.before.before.before.before.before.loop.j _ c.before.before.row_at.ensures a.n c.before.before.before.before.before.loop-test.true (sym c.before.entry-ok.ensures ∙ not_true _ c.if2.true)))
+    sym (and_false_l (leb (stingers a.store.now a.n) a.most) (entry_stops a.t1 a.rate a.last (ordered_at a.store.now) a.store.now c.before.before.before.before.before.before.loop.j _ c.before.before.row_at.ensures a.n c.before.before.before.before.before.loop-test.true (sym c.before.entry-ok.ensures ∙ not-true _ c.if2.true)))
 
 holds-clip-requires : tie.Need-holds-clip-requires invariant-loop decreases-loop
 holds-clip-requires c κs = search rules
@@ -92,7 +92,7 @@ returns-3 : tie.Need-returns-3 invariant-loop decreases-loop
 returns-3 c =
     let p = c.before.before.before.before.before.before.before in
     let a = (from p).args in
-    sym (and_false_l (leb (stingers a.store.now a.n) a.most) (claim_stops a.t1 a.rate a.last (ordered_at a.store.now) a.store.now (upto p).loop.j _ p.before.before.row_at.ensures a.n p.before.before.before.before.before.loop-test.true (sym (found c.before) ∙ not_true _ c.if4.true)))
+    sym (and_false_l (leb (stingers a.store.now a.n) a.most) (claim_stops a.t1 a.rate a.last (ordered_at a.store.now) a.store.now (upto p).loop.j _ p.before.before.row_at.ensures a.n p.before.before.before.before.before.loop-test.true (sym (found c.before) ∙ not-true _ c.if4.true)))
 
 voices-of-requires : tie.Need-voices-of-requires invariant-loop decreases-loop
 voices-of-requires c κs = search rules

@@ -1,6 +1,6 @@
 -- `song_ok` meets its contract: a song that is held has a slot.
 use mathlib.Core.Path.{refl, sym, ◌∙◌}
-use borrow.Author.Tests.{not_true}
+use borrow.Author.Tests.{not-true}
 use Rattle.bank.proofs.Clauses.{live_has}
 use Rattle.bank.proofs.Claims.{song_has}
 use Rattle.session.proofs.Checks.{passes}
@@ -12,7 +12,7 @@ song-held-requires : tie.Need-song-held-requires
 song-held-requires c κs = search rules
 
 returns : tie.Need-returns
-returns c b e f = rw (sym (c.before.song-held.ensures b e f) ∙ not_true _ c.if1.true) refl
+returns c b e f = rw (sym (c.before.song-held.ensures b e f) ∙ not-true _ c.if1.true) refl
 
 extent-of-requires : tie.Need-extent-of-requires
 extent-of-requires c κs = search rules

@@ -1,7 +1,7 @@
 -- `voice_ok` meets its contract: a voice whose clip is held has a slot.
 use mathlib.Core.Path.{refl, sym, ◌∙◌}
 use lib.Ieee.{of_bits}
-use borrow.Author.Tests.{not_true}
+use borrow.Author.Tests.{not-true}
 use Rattle.bank.proofs.Clauses.{live_has}
 use Rattle.bank.proofs.Claims.{stinger_has}
 use Rattle.session.proofs.Checks.{passes}
@@ -14,7 +14,7 @@ stinger-held-requires : tie.Need-stinger-held-requires
 stinger-held-requires c κs = search rules
 
 returns : tie.Need-returns
-returns c s e r f = rw (r, sym (c.before.stinger-held.ensures s.bank e f) ∙ not_true _ c.if1.true) refl
+returns c s e r f = rw (r, sym (c.before.stinger-held.ensures s.bank e f) ∙ not-true _ c.if1.true) refl
 
 declick-requires : tie.Need-declick-requires
 declick-requires c κs = search rules

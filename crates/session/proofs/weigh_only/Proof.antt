@@ -1,6 +1,6 @@
 -- `weigh_only` meets its contract.
 use mathlib.Core.Path.{sym, ◌∙◌}
-use borrow.Author.Tests.{not_true}
+use borrow.Author.Tests.{not-true}
 use Rattle.session.specs.Refusal.{first}
 use Rattle.session.specs.WellFormed.{weigh_only}
 use Rattle.session.proofs.Checks.{passes}
@@ -13,7 +13,7 @@ well-formed-requires c κs = search rules
 
 returns : tie.Need-returns
 unfolding weigh_only first
-returns c = simp (sym c.before.well-formed-2.ensures ∙ not_true _ c.if1.true)
+returns c = simp (sym c.before.well-formed-2.ensures ∙ not-true _ c.if1.true)
 
 returns-2 : tie.Need-returns-2
 unfolding weigh_only first

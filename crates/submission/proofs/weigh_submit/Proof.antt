@@ -1,7 +1,7 @@
 -- `weigh_submit` meets its contract.
 use mathlib.Core.Path.{sym, ap, ◌∙◌}
 use mathlib.Core.Bool.{not}
-use borrow.Author.Tests.{not_false}
+use borrow.Author.Tests.{not-false}
 use Rattle.session.proofs.Refuse.{stop, skip}
 use Rattle.submission.specs.Submit.{weigh_submit}
 use Rattle.submission.proofs.Ready.{scales_ready}
@@ -23,7 +23,7 @@ capture-room-requires : tie.Need-capture-room-requires
 capture-room-requires c κs = search rules
 
 scales-of-requires : tie.Need-scales-of-requires
-scales-of-requires c κs = scales_ready _ _ _ (sym c.before.before.before.well-formed-2.ensures ∙ not_false _ c.before.before.if1.false)
+scales-of-requires c κs = scales_ready _ _ _ (sym c.before.before.before.well-formed-2.ensures ∙ not-false _ c.before.before.if1.false)
 
 stands-now-requires : tie.Need-stands-now-requires
 stands-now-requires c κs = search rules

@@ -1,6 +1,6 @@
 -- `reads` meets its contract: a Gain by its word, a Stinger by one test after the other, any other row by its kind alone.
 use mathlib.Core.Path.{refl, sym, ◌∙◌}
-use mathlib.Core.Bool.{and_true}
+use mathlib.Core.Bool.{and-true}
 use borrow.Author.Tests.{ne_eqb}
 use Rattle.timeline.specs.Record.{readable, read_of}
 use Rattle.timeline.proofs.Gains.{no_gain}
@@ -29,7 +29,7 @@ returns-3 c = rw (sym c.before.readable.ensures ∙ c.if1.false) refl
 
 returns-4 : tie.Need-returns-4
 unfolding readable
-returns-4 c = simp (no_gain c.before.args.x (ne_eqb _ _ c.match.rest.0.1) (ne_eqb _ _ c.match.rest.1), ne_eqb _ _ c.match.rest.1, ne_eqb _ _ c.match.rest.0.1) (sym (and_true _ ∙ and_true _))
+returns-4 c = simp (no_gain c.before.args.x (ne_eqb _ _ c.match.rest.0.1) (ne_eqb _ _ c.match.rest.1), ne_eqb _ _ c.match.rest.1, ne_eqb _ _ c.match.rest.0.1) (sym (and-true _ ∙ and-true _))
 
 pub reads-spec : {M : Type 1} → statement M
 reads-spec = tie.close (tie.spec finite-word-requires readable-requires row-gain-ok-requires returns returns-2 returns-3 returns-4)
