@@ -1,4 +1,6 @@
 //! Replays the fixed list of the Rust's answers on our own calls, and compares answer and state after every call; then a list with mistakes in it, which must be found.
+#![tactic(auto)]
+
 mod asked;
 mod calls;
 mod lines;

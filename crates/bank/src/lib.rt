@@ -1,4 +1,6 @@
 //! The clip bank: 32 slots over a lent pool of samples.
+#![tactic(auto)]
+
 ghost use Rattle.std.specs.Prelude.{◌≡◌, true, false, ◌&&◌, cond, ◌+◌, ◌-◌, ◌<◌, ◌≤◌, ◌^◌, min, leb, length};
 ghost use Rattle.counts.specs.Below.{all_below};
 ghost use Rattle.counts.specs.declared.Claim.TheVariants.{Song, Stinger};

@@ -1,4 +1,6 @@
 //! The block call: a block is split where commands are due, so that none lands early or late.
+#![tactic(auto)]
+
 ghost use Rattle.std.specs.Prelude.{◌≡◌, false, List, Float, ◌*◌, ◌≤◌, ◌<◌, length};
 ghost use Rattle.bank.specs.Sample.{frames_of};
 ghost use Rattle.session.specs.declared.Desk.{Desk};

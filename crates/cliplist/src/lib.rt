@@ -1,4 +1,6 @@
 //! A list of the clips that a session has: the session that is made of it, with no sample loaded.
+#![tactic(auto)]
+
 ghost use Rattle.std.specs.Prelude.{◌≡◌, true, false, not, ◌&&◌, [], ◌+◌, ◌*◌, ◌<◌, ◌≤◌, ltb, length, replicate};
 ghost use Rattle.bank.specs.Slots.{used_at};
 ghost use Rattle.session.specs.WellFormed.{well_formed};

@@ -1,4 +1,6 @@
 //! The calls that change the bank: open, load and retire.
+#![tactic(auto)]
+
 ghost use Rattle.std.specs.Prelude.{◌≡◌, true, List, ◌+◌, ◌-◌, ◌*◌, ◌<◌, ◌≤◌, ◌^◌, length, Float};
 ghost use Rattle.counts.specs.Below.{any_below};
 ghost use Rattle.counts.specs.Handles.{same_handle};

@@ -1,4 +1,6 @@
 //! The calls around the performance: start and stop capture, snapshot, apply snapshot, metrics.
+#![tactic(auto)]
+
 ghost use Rattle.std.specs.Prelude.{◌≡◌, List, ℕ, min};
 ghost use Rattle.session.specs.Session.{with_stage, extent_now};
 ghost use Rattle.control.specs.Capture.{capturing, start_capture_of, weigh_stop, stop_capture_of};

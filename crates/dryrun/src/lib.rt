@@ -1,4 +1,6 @@
 //! The dry run of a recorded tour: what its commands do, without the sound.
+#![tactic(auto)]
+
 ghost use Rattle.std.specs.Prelude.{◌≡◌, true, List, [], ℕ, ◌+◌, ◌*◌, ◌^◌, ◌≤◌, length};
 ghost use Rattle.timeline.specs.Queue.{stingers};
 ghost use Rattle.session.specs.WellFormed.{well_formed};

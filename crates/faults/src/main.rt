@@ -1,4 +1,6 @@
 //! Meets every refusal of a tour's reader and writer by its number and its place, and reads again what was written.
+#![tactic(auto)]
+
 mod again;
 mod given;
 mod left;

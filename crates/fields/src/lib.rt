@@ -1,5 +1,7 @@
 //! What a tour's file is made of: numbers in bytes, fields of a tag, a length and as many bytes, and the list of 32 handles
 //! that its clip bytes stand for.
+#![tactic(auto)]
+
 ghost use Rattle.std.specs.Prelude.{◌≡◌, [], ◌∷◌, ◌+◌, ◌≤◌, ◌<◌, ◌^◌, eqb, get_or, length};
 ghost use Rattle.std.proofs.lemmas.List.Edits.{sets};
 ghost use Rattle.counts.specs.Below.{any_below};

@@ -1,4 +1,6 @@
 //! A file is read whole, and what is wrong with one is said in one line on standard error.
+#![tactic(auto)]
+
 ghost use Rattle.io.specs.Counts.{IsPrefixLen};
 
 use libc::STDERR_FILENO;

@@ -1,4 +1,6 @@
 //! The calls for C and Rust: a session without enums, by value in and out, and an exported function for each call.
+#![tactic(auto)]
+
 ghost use Rattle.std.specs.Prelude.{◌≡◌, ◌&&◌, List, map, ℕ, ◌<◌, Float};
 ghost use Rattle.bank.specs.declared.Clip.{Clip};
 ghost use Rattle.dryrun.specs.Call.{Lent, lent};

@@ -1,4 +1,6 @@
 //! A block without its sound: what its commands do to the playhead, frame for frame as in the session, and no sample.
+#![tactic(auto)]
+
 ghost use Rattle.std.specs.Prelude.{◌≡◌, List, ℕ, ◌+◌, ◌*◌, ◌≤◌, length};
 ghost use Rattle.timeline.specs.Record.{row};
 ghost use Rattle.timeline.specs.Store.{put_row};

@@ -1,4 +1,6 @@
 //! Runs the documents' numbers on the compiled code, over real stores, and prints them.
+#![tactic(auto)]
+
 mod blocks;
 mod laps;
 mod loops;

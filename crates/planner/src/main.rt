@@ -3,6 +3,8 @@
 //! What is wrong is said in one line on standard error, and then nothing is written.
 //!
 //! It is run on `data/`: 12 records over two minutes, three of which a replay does not take, and one that is not yet due.
+#![tactic(auto)]
+
 ghost use Rattle.io.specs.Counts.{IsPrefixLen};
 
 mod blocks;

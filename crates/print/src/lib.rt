@@ -1,4 +1,6 @@
 //! Writes answers and samples, and gives the bits of a float, for the programs.
+#![tactic(auto)]
+
 use clips::LoadAnswer;
 use control::{MetricsAnswer, SnapshotAnswer, StopAnswer};
 use counts::Handle;

@@ -1,4 +1,6 @@
 //! The pump: a block of a session made straight into the ring that the audio callback drains.
+#![tactic(auto)]
+
 ghost use Rattle.std.specs.Prelude.{◌≡◌, List, ◌+◌, ◌*◌, ◌^◌, ◌<◌, ◌≤◌, length, Float};
 ghost use Rattle.pump.specs.declared.Pumped.{Pumped};
 ghost use Rattle.block.specs.Block.{reported};

@@ -1,4 +1,6 @@
 //! What remains of a damaged tour: every byte of its file is kept, passed over or dropped, and what is kept makes a fresh file.
+#![tactic(auto)]
+
 ghost use Rattle.std.specs.Prelude.{◌≡◌, ◌+◌, ◌*◌, ◌<◌, ◌≤◌, ◌&&◌, ◌||◌, not, [], ◌∷◌, length, take, drop, leb, eqb};
 ghost use Rattle.std.proofs.lemmas.List.Edits.{sets};
 ghost use Rattle.fields.specs.Field.{tag_of};

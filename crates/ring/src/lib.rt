@@ -1,4 +1,6 @@
 //! The ring that the audio callback pulls from: where it stands in its lent store, and what the callback takes.
+#![tactic(auto)]
+
 ghost use Rattle.std.specs.Prelude.{◌≡◌, List, ◌++◌, ◌-◌, ◌<◌, ◌≤◌, min, length, replicate, Float};
 ghost use Rattle.ramp.specs.Number.{zero32};
 ghost use Rattle.ring.specs.declared.Drained.{Drained};

@@ -1,5 +1,7 @@
 //! Runs of frames: as many as there are in which no voice ends, and of their song, master and tail as many as there are in
 //! which nothing is decided anew.
+#![tactic(auto)]
+
 ghost use Rattle.std.specs.Prelude.{◌≡◌, ◌+◌, ◌*◌, ◌≤◌, ◌<◌, ◌++◌, length, drop, true};
 ghost use Rattle.transport.specs.Transport.{is_playing};
 ghost use Rattle.stage.specs.Mode.{is_house};

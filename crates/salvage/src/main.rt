@@ -4,6 +4,8 @@
 //! It is run on `data/damaged.thr`, a tour of 14 commands: the fourth has a wrong bit in its kind and the seventh in its tag, which
 //! makes it a field to skip; six bytes stand before the sixth; the ninth comes again after the eleventh; and behind the last field
 //! the copy begins again, and is cut.
+#![tactic(auto)]
+
 ghost use Rattle.std.specs.Prelude.{◌≤◌};
 
 mod fresh;

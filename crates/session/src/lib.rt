@@ -1,4 +1,6 @@
 //! The session, why a call is refused, and the answers that calls share.
+#![tactic(auto)]
+
 ghost use Rattle.std.specs.Prelude.{◌≡◌, ◌&&◌, cond, ◌+◌, ◌-◌, ◌*◌, ◌<◌, ◌≤◌, ◌^◌, min, eqb, leb, length};
 ghost use Rattle.counts.specs.Below.{within, all_below};
 ghost use Rattle.counts.specs.declared.Claim.TheVariants.{Song};

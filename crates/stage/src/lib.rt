@@ -1,4 +1,6 @@
 //! Everything that a frame or a command changes, and nothing else.
+#![tactic(auto)]
+
 ghost use Rattle.std.specs.Prelude.{◌≡◌, true, cond, ◌<◌, length};
 ghost use Rattle.counts.specs.Counts.{place_of};
 ghost use Rattle.timeline.specs.Command.{claim_of, takes_voice};

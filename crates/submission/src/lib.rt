@@ -1,4 +1,6 @@
 //! The calls that queue commands: submit, transition and replay.
+#![tactic(auto)]
+
 ghost use Rattle.std.specs.Prelude.{◌≡◌, true, cond, List, ℕ, ◌+◌, ◌-◌, ◌*◌, ◌^◌, ◌≤◌, ◌<◌, max, length};
 ghost use Rattle.timeline.specs.Command.{gain_ok};
 ghost use Rattle.timeline.specs.Store.{put_row};

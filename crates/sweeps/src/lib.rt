@@ -1,4 +1,6 @@
 //! Sweeps over an output: the loops of a run, in which nothing is decided anew.
+#![tactic(auto)]
+
 ghost use Rattle.std.specs.Prelude.{◌≡◌, true, ◌+◌, ◌-◌, ◌*◌, ◌≤◌, ◌<◌, min, length};
 ghost use Rattle.ramp.specs.Ramp.{tick_of};
 ghost use Rattle.sweeps.specs.Over.{over};

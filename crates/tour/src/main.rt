@@ -1,4 +1,6 @@
 //! A tour of two rooms, heard block by block: a sheet of what sounded when, and of what the guide did.
+#![tactic(auto)]
+
 mod rooms;
 mod score;
 mod sheet;

@@ -1,6 +1,8 @@
 //! Each call twice, with stores of its own the second time: where the stores are equal as they are lent, the answers with
 //! their sessions are equal, and so is every written store as it is left. The calls' contracts alone show it, so each of
 //! them determines its result. All NaNs are one float here.
+#![tactic(auto)]
+
 ghost use Rattle.std.specs.Prelude.{◌≡◌};
 ghost use Rattle.dryrun.specs.Call.{lent};
 
