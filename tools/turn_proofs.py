@@ -71,7 +71,8 @@ class Function:
             key = key.lower()
         if key not in self.steps and key.rstrip("0123456789") in self.steps:
             key = key.rstrip("0123456789")
-        return self.steps.get(key, name)
+        new = self.steps.get(key, name)
+        return name if re.fullmatch(re.escape(name) + r"-\d+", new) else new
 
     def paths(self, text):
         return CHAIN.sub(self.chain, text)
@@ -175,6 +176,7 @@ def turn(path, module, f, where, said):
         block = inlined(block)
         # a test `if !x` is told of x, and an array's length is found by itself
         block = re.sub(r"\bnot-(?:true|false) _ (c\.if-not-[\w-]+\.(?:true|false))", r"\1", block)
+        block = re.sub(r"\bc\.in_default\.rest\b", "c.in_default.in_default-own.rest", block)
         block = re.sub(r"\bsym \(length-map [\w.()]+ _\) ∙ [\w().]*\.well_formed(?:\.\d+)+", "omega arith", block)
         if is_goal:
             block = re.sub("^" + re.escape(new) + r" (\S+) κs", lambda m: f"{new} {m.group(1)}", block, flags=re.M)
