@@ -1086,8 +1086,7 @@ fn metered(h: HostSession, r: MetricsAnswered) -> HostMetrics
 // ---- the calls
 
 /// Opens a session on its first song.
-#[unsafe(no_mangle)]
-pub extern "C" fn threshreed_open(
+pub fn threshreed_open(
     settings: Settings,
     queue: &[u64],
     capture: &[u64],
@@ -1103,8 +1102,7 @@ pub extern "C" fn threshreed_open(
 }
 
 /// Loads a clip: kind 1 a song of a length, 2 a stinger.
-#[unsafe(no_mangle)]
-pub extern "C" fn threshreed_load(
+pub fn threshreed_load(
     h: HostSession,
     queue: &[u64],
     capture: &[u64],
@@ -1127,8 +1125,7 @@ pub extern "C" fn threshreed_load(
 }
 
 /// Retires a clip that nothing holds.
-#[unsafe(no_mangle)]
-pub extern "C" fn threshreed_retire(
+pub fn threshreed_retire(
     h: HostSession,
     queue: &[u64],
     capture: &[u64],
@@ -1146,8 +1143,7 @@ pub extern "C" fn threshreed_retire(
 }
 
 /// Submits a command of one of nine kinds.
-#[unsafe(no_mangle)]
-pub extern "C" fn threshreed_submit(
+pub fn threshreed_submit(
     h: HostSession,
     queue: &mut [u64],
     capture: &mut [u64],
@@ -1173,8 +1169,7 @@ pub extern "C" fn threshreed_submit(
 }
 
 /// Submits a transition in place of every queued one.
-#[unsafe(no_mangle)]
-pub extern "C" fn threshreed_transition(
+pub fn threshreed_transition(
     h: HostSession,
     queue: &mut [u64],
     capture: &mut [u64],
@@ -1194,8 +1189,7 @@ pub extern "C" fn threshreed_transition(
 }
 
 /// Queues the records of a list at their frames.
-#[unsafe(no_mangle)]
-pub extern "C" fn threshreed_replay(
+pub fn threshreed_replay(
     h: HostSession,
     queue: &mut [u64],
     capture: &[u64],
@@ -1213,8 +1207,7 @@ pub extern "C" fn threshreed_replay(
 }
 
 /// Makes a block: half as many frames as the output has samples.
-#[unsafe(no_mangle)]
-pub extern "C" fn threshreed_block(
+pub fn threshreed_block(
     h: HostSession,
     queue: &[u64],
     capture: &[u64],
@@ -1271,8 +1264,7 @@ pub extern "C" fn threshreed_block(
 }
 
 /// Makes frames into a ring's store: those asked for, held to half the free samples.
-#[unsafe(no_mangle)]
-pub extern "C" fn threshreed_pump(
+pub fn threshreed_pump(
     h: HostSession,
     queue: &[u64],
     capture: &[u64],
@@ -1293,8 +1285,7 @@ pub extern "C" fn threshreed_pump(
 }
 
 /// Fills the callback's block from a ring's store: whole frames while there are any, and silence.
-#[unsafe(no_mangle)]
-pub extern "C" fn threshreed_drain(r: SampleRing, store: &[f32], out: &mut [f32]) -> HostDrained
+pub fn threshreed_drain(r: SampleRing, store: &[f32], out: &mut [f32]) -> HostDrained
     ensures { ◌≡◌ {A = HostDrained × List Float} (result, out.new) (drain_host r store.now out.old) }
 {
     let x = ring::drain(r, store, out);
@@ -1302,8 +1293,7 @@ pub extern "C" fn threshreed_drain(r: SampleRing, store: &[f32], out: &mut [f32]
 }
 
 /// Reads a tour's file: the records of its commands at the list's front.
-#[unsafe(no_mangle)]
-pub extern "C" fn threshreed_read_tour(clips: &[u64; 32], file: &[u8], list: &mut [u64]) -> HostTour
+pub fn threshreed_read_tour(clips: &[u64; 32], file: &[u8], list: &mut [u64]) -> HostTour
     ensures { ◌≡◌ {A = HostTour × List ℕ} (result, list.new) (read_tour_host clips.now file.now list.old) }
 {
     let a = tourfile::read_tour(clips, file, list);
@@ -1311,8 +1301,7 @@ pub extern "C" fn threshreed_read_tour(clips: &[u64; 32], file: &[u8], list: &mu
 }
 
 /// Writes a list's records to a tour's file, at the output's front.
-#[unsafe(no_mangle)]
-pub extern "C" fn threshreed_write_tour(
+pub fn threshreed_write_tour(
     clips: &[u64; 32],
     records: &[u64],
     out: &mut [u8],
@@ -1324,8 +1313,7 @@ pub extern "C" fn threshreed_write_tour(
 }
 
 /// Salvages a damaged tour's file: the fresh one at the output's front, the ranges at the list's.
-#[unsafe(no_mangle)]
-pub extern "C" fn threshreed_salvage(file: &[u8], out: &mut [u8], list: &mut [u64]) -> HostSalvage
+pub fn threshreed_salvage(file: &[u8], out: &mut [u8], list: &mut [u64]) -> HostSalvage
     ensures { ◌≡◌ {A = HostSalvage × List ℕ × List ℕ} (result, out.new, list.new) (salvage_host file.now out.old list.old) }
 {
     let a = remains::salvage(file, out, list);
@@ -1334,8 +1322,7 @@ pub extern "C" fn threshreed_salvage(file: &[u8], out: &mut [u8], list: &mut [u6
 
 /// Runs a recorded tour without its sound: its records and why each is skipped, what is still queued, and the sheet of what
 /// was executed.
-#[unsafe(no_mangle)]
-pub extern "C" fn threshreed_dry_run(
+pub fn threshreed_dry_run(
     mode: u32,
     clips: &[u64],
     file: &[u8],
@@ -1352,8 +1339,7 @@ pub extern "C" fn threshreed_dry_run(
 }
 
 /// Starts capture, empty.
-#[unsafe(no_mangle)]
-pub extern "C" fn threshreed_start_capture(
+pub fn threshreed_start_capture(
     h: HostSession,
     queue: &[u64],
     capture: &[u64],
@@ -1370,8 +1356,7 @@ pub extern "C" fn threshreed_start_capture(
 }
 
 /// Stops capture and copies its records to the list's front.
-#[unsafe(no_mangle)]
-pub extern "C" fn threshreed_stop_capture(
+pub fn threshreed_stop_capture(
     h: HostSession,
     queue: &[u64],
     capture: &[u64],
@@ -1389,8 +1374,7 @@ pub extern "C" fn threshreed_stop_capture(
 }
 
 /// Takes a control snapshot.
-#[unsafe(no_mangle)]
-pub extern "C" fn threshreed_snapshot(h: HostSession, queue: &[u64], capture: &[u64]) -> HostSnapped
+pub fn threshreed_snapshot(h: HostSession, queue: &[u64], capture: &[u64]) -> HostSnapped
     ensures { result ≡ snapshot_host h queue.now capture.now }
 {
     let first = weigh(h, queue, capture, true);
@@ -1403,8 +1387,7 @@ pub extern "C" fn threshreed_snapshot(h: HostSession, queue: &[u64], capture: &[
 }
 
 /// Applies a control snapshot.
-#[unsafe(no_mangle)]
-pub extern "C" fn threshreed_apply_snapshot(
+pub fn threshreed_apply_snapshot(
     h: HostSession,
     queue: &[u64],
     capture: &[u64],
@@ -1423,8 +1406,7 @@ pub extern "C" fn threshreed_apply_snapshot(
 }
 
 /// Reads the metrics.
-#[unsafe(no_mangle)]
-pub extern "C" fn threshreed_metrics(h: HostSession, queue: &[u64], capture: &[u64]) -> HostMetrics
+pub fn threshreed_metrics(h: HostSession, queue: &[u64], capture: &[u64]) -> HostMetrics
     ensures { result ≡ metrics_host h queue.now capture.now }
 {
     let first = weigh(h, queue, capture, true);
