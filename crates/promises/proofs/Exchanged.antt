@@ -40,15 +40,7 @@ use Rattle.promises.proofs.Kept.{keeps}
 module _ (a b : ℕ) where
   -- what is told of a record under its exchanged number
   abbrev told_by : Told → Told
-  told_by t =
-      record {
-        command = exchanged a b t.command;
-        clock = t.clock;
-        before = t.before;
-        after = t.after;
-        laps_before = t.laps_before;
-        laps_after = t.laps_after;
-      }
+  told_by t = record { command = exchanged a b t.command; clock = t.clock; before = t.before; after = t.after }
 
   -- a stage's block over the exchanged records is the block, with what it leaves queued exchanged
   stage_exchanged : (x : Settings) (view : View) (n : ℕ) (s : Stage) (l : List QueueRecord)
