@@ -176,6 +176,7 @@ def turn(path, module, f, where, said):
         block = inlined(block)
         # a test `if !x` is told of x, and an array's length is found by itself
         block = re.sub(r"\bnot-(?:true|false) _ (c\.if-not-[\w-]+\.(?:true|false))", r"\1", block)
+        block = re.sub(r"\bap not \(sym (c\.[\w.-]+)\) ∙ (c\.if-not-[\w-]+\.(?:true|false))", r"ap not (sym \1 ∙ \2)", block)
         block = re.sub(r"\bc\.in_default\.rest\b", "c.in_default.in_default-own.rest", block)
         block = re.sub(r"\bsym \(length-map [\w.()]+ _\) ∙ [\w().]*\.well_formed(?:\.\d+)+", "omega arith", block)
         if is_goal:
