@@ -12,7 +12,7 @@ use Rattle.counts.proofs.Truth.{and_l, not_true, two_ways, never}
 use Rattle.fields.specs.Bytes.{two}
 use Rattle.fields.specs.Field.{is_whole, tag_of}
 use Rattle.tourfile.specs.declared.Progress.{Progress}
-use Rattle.tourfile.specs.Reader.{start, behind}
+use Rattle.tourfile.specs.Reader.{start}
 use Rattle.tourfile.proofs.Turns.{behind_at}
 use Rattle.remains.specs.Salvage.{is_valid, is_passed, field_at, what, steps, ranges_of, kept_fields, laid, fresh}
 use Rattle.remains.specs.Steps.{next}
