@@ -1,15 +1,15 @@
 -- Well formed as the code weighs it: one check after the other, and all that is asked of a voice at once. Assumes nothing.
 use mathlib.Core.Path.{◌≡◌, sym, ap, ap₂, ◌∙◌}
-use mathlib.Core.Bool.{Bool, true, false, not, ◌&&◌}
+use mathlib.Core.Bool.{Bool, true, false, ◌&&◌}
 use mathlib.Core.List.{List}
 use Prim.Native.Nat.{ℕ, ◌-◌, ◌*◌, ◌^◌, ◌≤◌}
 use native.Mathlib.Omega.{arith}
 use lib.Dec.{leb, eqb}
 use lib.ListN.{length}
-use borrow.Author.Tests.{leb-true, eqb-true, not-false}
+use borrow.Author.Tests.{leb-true, eqb-true}
 use Rattle.counts.specs.declared.Claim.{Claim}
 use Rattle.counts.specs.Below.{all_below}
-use Rattle.counts.proofs.Truth.{never, not_true, and_l, and_r, and_true}
+use Rattle.counts.proofs.Truth.{never, and_l, and_r, and_true}
 use Rattle.counts.proofs.Below.{all_and}
 use Rattle.timeline.specs.Queue.{ordered_at, rising_at, queue_ok, capture_ok, stingers}
 use Rattle.bank.specs.WellFormed.{bank_ok}
@@ -117,8 +117,8 @@ voices_each s =
     ∙ ap (λ b. b && every_voice s (gain_ok s)) (all_and (λ i. voice_held s (at i)) (λ i. head_ok s (at i)) n)
 
 -- a check that does not fail is passed
-pub passes : {r t : Bool} → r ≡ t → not r ≡ false → t ≡ true
-passes {r} e f = sym e ∙ not-false r f
+pub passes : {r t : Bool} → r ≡ t → r ≡ true → t ≡ true
+passes e f = sym e ∙ f
 
 module _ (s : Session) (q c : List ℕ) where
   -- a well formed session passes every check
@@ -202,5 +202,5 @@ module _ (s : Session) (q c : List ℕ) where
   decides t f g = agree t (well_formed s q c) (λ e. checked (f e)) (λ e. g (checks e))
 
   -- one that fails a check is not
-  pub fails : {r t : Bool} → r ≡ t → not r ≡ true → (Checks s q c → t ≡ true) → false ≡ well_formed s q c
-  fails {r} e f field = decides false (λ n. absurd (never (sym n))) (λ k. sym (not_true r f) ∙ e ∙ field k)
+  pub fails : {r t : Bool} → r ≡ t → r ≡ false → (Checks s q c → t ≡ true) → false ≡ well_formed s q c
+  fails e f field = decides false (λ n. absurd (never (sym n))) (λ k. sym f ∙ e ∙ field k)
