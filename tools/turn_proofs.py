@@ -67,7 +67,7 @@ class Function:
 
     def step(self, name):
         key = plain(name)
-        if key not in self.steps and key.lower() in self.steps:
+        if key not in self.steps and "_" in key and key.lower() in self.steps:
             key = key.lower()
         if key not in self.steps and key.rstrip("0123456789") in self.steps:
             key = key.rstrip("0123456789")
@@ -147,7 +147,10 @@ def turn(path, module, f, where, said):
             if len(given) != len(wanted):
                 said.append(f"{path}: {name} takes {len(given)} and not {len(wanted)}: {wanted}")
             sub = {g: "l." + w for g, w in zip(given, wanted) if g != "_"}
+            # a field of a record that is made keeps its name
+            rest = re.sub(r"([{;] )(" + NAME + r") = ", lambda t: f"{t.group(1)}\0{t.group(2)} = ", rest)
             rest = TOKEN.sub(lambda t: sub.get(t.group(0), t.group(0)) if rest[t.start() - 1 : t.start()] != "." else t.group(0), rest)
+            rest = rest.replace("\0", "")
             invariants.append((d[:k], what, fullname, rest, [b for b in body if b.startswith("unfolding")]))
             continue
         m = re.match(r"tie\.Need-(" + NAME + ")", kind)

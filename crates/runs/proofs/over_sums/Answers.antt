@@ -1,0 +1,25 @@
+-- `runs::over_sums` meets its contract. Assumes nothing.
+use mathlib.Core.Path.{refl}
+use native.Mathlib.Omega.{arith}
+use Rattle.runs.proofs.Parts.{part_reads}
+use Rattle.runs.proofs.over_sums.Goals as goal
+
+pub part_of-part-requires : goal.part_of-part-requires
+part_of-part-requires c =
+    omega (arith, c.requires.clip, c.well_formed.1.0)
+
+pub add_both-gains-requires : goal.add_both-gains-requires
+add_both-gains-requires c =
+    let t = rw c.in-Sounding.is at c.requires.tail in (c.requires.room, c.requires.song, rw c.part_of-part.ensures (part_reads c.args.pool.now c.args.clip _ c.args.n c.requires.clip t.1), t.0)
+
+pub cursor_by-on-requires : goal.cursor_by-on-requires
+cursor_by-on-requires c =
+    (rw c.in-Sounding.is at c.requires.tail).1
+
+pub returns-in-None : goal.returns-in-None
+returns-in-None c =
+    let m = c.add_part-g.ensures in rw c.in-None.is (m.0, refl, m.1)
+
+pub returns-in-Sounding : goal.returns-in-Sounding
+returns-in-Sounding c =
+    let m = c.add_both-gains.ensures in rw c.in-Sounding.is (m.0, rw (m.1, c.cursor_by-on.ensures) refl, rw (← c.part_of-part.ensures) m.2)
