@@ -35,9 +35,6 @@ use Rattle.control.specs.declared.SnapshotAnswer.{SnapshotAnswer}
 use Rattle.control.specs.declared.SnapshotAnswered.{SnapshotAnswered}
 use Rattle.control.specs.declared.MetricsAnswer.{MetricsAnswer}
 use Rattle.control.specs.declared.MetricsAnswered.{MetricsAnswered}
-use Rattle.dryrun.specs.declared.DryDone.{DryDone}
-use Rattle.dryrun.specs.declared.DryAnswer.{DryAnswer}
-use Rattle.dryrun.specs.Call.{dry_number, SaysDry, came, refuses as refuses_dry}
 use Rattle.host.specs.declared.HostSession.{HostSession}
 use Rattle.host.specs.declared.HostSnapshot.{HostSnapshot}
 use Rattle.host.specs.declared.HostAnswered.{HostAnswered}
@@ -48,12 +45,11 @@ use Rattle.host.specs.declared.HostPumped.{HostPumped}
 use Rattle.host.specs.declared.HostDrained.{HostDrained}
 use Rattle.host.specs.declared.HostTour.{HostTour}
 use Rattle.host.specs.declared.HostSalvage.{HostSalvage}
-use Rattle.host.specs.declared.HostDryRun.{HostDryRun}
 use Rattle.host.specs.declared.HostReplayed.{HostReplayed}
 use Rattle.host.specs.declared.HostStopped.{HostStopped}
 use Rattle.host.specs.declared.HostSnapped.{HostSnapped}
 use Rattle.host.specs.declared.HostMetrics.{HostMetrics}
-use Rattle.host.specs.Kept.{state_of, state_number, loop_of, loop_numbers, no_handle, is_session, session_of, host_of}
+use Rattle.host.specs.Kept.{loop_numbers, no_handle, is_session, session_of, host_of}
 use Rattle.host.specs.Arguments.{snapshot_numbers}
 
 -- what a host reads of an answer, in the rules' terms: 0 is its value, any other number its refusal
@@ -216,53 +212,6 @@ salvaged_by (SalvageAnswer.Refused x) = salvaged (fault_number x) 0 0 0
 -- what it says: a number of 0 is done
 abbrev pub says_salvage_by : HostSalvage → SaysSalvage
 says_salvage_by r = cond (eqb r.refusal 0) (gives_salvage r.kept r.bytes r.ranges) (refuses_salvage r.refusal)
-
--- ---- what was executed and where the playhead is, or a refusal: a dry run
-
-abbrev pub dry_run_refused : ℕ → ℕ → HostDryRun
-dry_run_refused n at =
-    record {
-      refusal = n;
-      place = at;
-      commands = 0;
-      taken = 0;
-      executed = 0;
-      queued = 0;
-      clock = record { 0 = 0 };
-      song = no_handle;
-      state = 0;
-      position = record { 0 = 0 };
-      looped = loop_numbers LoopRange.Off;
-      laps = 0;
-    }
-
-abbrev pub dry_run_done : DryDone → HostDryRun
-dry_run_done d =
-    record {
-      refusal = 0;
-      place = 0;
-      commands = d.commands;
-      taken = d.report.taken;
-      executed = d.run.rows;
-      queued = d.run.queued;
-      clock = d.run.dry.clock;
-      song = d.run.dry.playhead.song;
-      state = state_number d.run.dry.playhead.transport.state;
-      position = d.run.dry.playhead.transport.position;
-      looped = loop_numbers d.run.dry.playhead.transport.looped;
-      laps = d.run.dry.playhead.transport.laps;
-    }
-
-abbrev pub dry_run_by : DryAnswer → HostDryRun
-dry_run_by (DryAnswer.Done d) = dry_run_done d
-dry_run_by (DryAnswer.Refused x at) = dry_run_refused (dry_number x) at
-
--- what it says: a number of 0 is done
-abbrev pub says_dry_by : HostDryRun → SaysDry
-says_dry_by r =
-    cond (eqb r.refusal 0)
-    (came r.commands r.taken r.executed r.queued r.clock r.song (state_of r.state) r.position (loop_of r.looped) r.laps)
-    (refuses_dry r.refusal r.place)
 
 -- ---- a report: replay
 

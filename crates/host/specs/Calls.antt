@@ -22,8 +22,6 @@ use Rattle.tourfile.specs.Writer.{records_of, write_of, write_into}
 use Rattle.remains.specs.Salvage.{salvage_of, salvage_out, salvage_list}
 use Rattle.pump.specs.declared.Pumped.{Pumped}
 use Rattle.pump.specs.Pump.{pump_of}
-use Rattle.dryrun.specs.declared.DryAnswer.{DryAnswer}
-use Rattle.dryrun.specs.Call.{Lent, dry_run_of}
 use Rattle.control.specs.declared.StopAnswered.{StopAnswered}
 use Rattle.control.specs.Capture.{start_capture_of, stop_capture_of}
 use Rattle.control.specs.Snapshot as control
@@ -40,14 +38,13 @@ use Rattle.host.specs.declared.HostPumped.{HostPumped}
 use Rattle.host.specs.declared.HostDrained.{HostDrained}
 use Rattle.host.specs.declared.HostTour.{HostTour}
 use Rattle.host.specs.declared.HostSalvage.{HostSalvage}
-use Rattle.host.specs.declared.HostDryRun.{HostDryRun}
 use Rattle.host.specs.declared.HostReplayed.{HostReplayed}
 use Rattle.host.specs.declared.HostStopped.{HostStopped}
 use Rattle.host.specs.declared.HostSnapped.{HostSnapped}
 use Rattle.host.specs.declared.HostMetrics.{HostMetrics}
 use Rattle.host.specs.Kept.{is_kind, kind_of, session_of}
 use Rattle.host.specs.Arguments.{is_submission, submission_of, is_at, at_of, is_snapshot, snapshot_of}
-use Rattle.host.specs.Answers.{weigh_host, unless, refused, answered_by, load_refused, loaded_by, opened_by, submit_refused, submitted_by, block_refused, blocked_by, pump_refused, pumped_by, drained_by, toured_by, salvaged_by, dry_run_by, replay_refused, replayed_by, stop_refused, stopped_by, snapshot_refused, snapped_by, metrics_refused, metered_by}
+use Rattle.host.specs.Answers.{weigh_host, unless, refused, answered_by, load_refused, loaded_by, opened_by, submit_refused, submitted_by, block_refused, blocked_by, pump_refused, pumped_by, drained_by, toured_by, salvaged_by, replay_refused, replayed_by, stop_refused, stopped_by, snapshot_refused, snapped_by, metrics_refused, metered_by}
 
 -- answer and session; pool
 unfoldable pub open_host : Settings → List ℕ → List ℕ → List Float → List Float → ℕ → SongFrame → HostLoaded × List Float
@@ -111,12 +108,6 @@ write_tour_host clips records out = (toured_by (write_of clips (records_of recor
 -- answer; output and list
 unfoldable pub salvage_host : List ℕ → List ℕ → List ℕ → HostSalvage × List ℕ × List ℕ
 salvage_host file out list = (salvaged_by (salvage_of file (length out) (length list)), salvage_out file out (length list), salvage_list file (length out) list)
-
--- answer; records, reasons, queue and sheet
-unfoldable pub dry_run_host : ℕ → List ℕ → List ℕ → List ℕ → Lent → HostDryRun × Lent
-dry_run_host mode clips file blocks x =
-    let z : DryAnswer × Lent = dry_run_of mode clips file blocks x in
-    (dry_run_by z.0, z.1)
 
 unfoldable pub start_capture_host : HostSession → List ℕ → List ℕ → HostAnswered
 start_capture_host h q c = unless (weigh_host h q c true) (refused h) (answered_by h (start_capture_of (session_of h) q c))

@@ -3,11 +3,10 @@
 
 ghost use Rattle.std.specs.Prelude.{◌≡◌, ◌&&◌, List, map, ℕ, ◌<◌, Float};
 ghost use Rattle.bank.specs.declared.Clip.{Clip};
-ghost use Rattle.dryrun.specs.Call.{Lent, lent};
 ghost use Rattle.host.specs.Kept.{is_kind, kind_of, kind_number, clip_of, clip_numbers, is_state, state_of, state_number, is_flag, flag_of, flag_number, loop_of, loop_numbers, tail_of, tail_numbers, slot_named, kinds_ok, is_session, stage_of, session_of, host_of};
 ghost use Rattle.host.specs.Arguments.{is_submission, submission_of, is_at, at_of, is_snapshot, snapshot_of, snapshot_numbers};
-ghost use Rattle.host.specs.Answers.{turned, weigh_host, refused, answered_by, load_refused, loaded_by, opened_by, submit_refused, submitted_by, block_refused, pump_refused, pumped_by, drained_by, toured_by, salvaged_by, dry_run_refused, dry_run_done, dry_run_by, replay_refused, replayed_by, stop_refused, stopped_by, no_snapshot, snapshot_refused, snapped_by, no_metrics, metrics_refused, metered_by};
-ghost use Rattle.host.specs.Calls.{open_host, load_host, retire_host, submit_host, transition_host, replay_host, block_host, pump_host, drain_host, read_tour_host, write_tour_host, salvage_host, dry_run_host, start_capture_host, stop_capture_host, snapshot_host, apply_host, metrics_host};
+ghost use Rattle.host.specs.Answers.{turned, weigh_host, refused, answered_by, load_refused, loaded_by, opened_by, submit_refused, submitted_by, block_refused, pump_refused, pumped_by, drained_by, toured_by, salvaged_by, replay_refused, replayed_by, stop_refused, stopped_by, no_snapshot, snapshot_refused, snapped_by, no_metrics, metrics_refused, metered_by};
+ghost use Rattle.host.specs.Calls.{open_host, load_host, retire_host, submit_host, transition_host, replay_host, block_host, pump_host, drain_host, read_tour_host, write_tour_host, salvage_host, start_capture_host, stop_capture_host, snapshot_host, apply_host, metrics_host};
 
 use bank::{Bank, Clip, Kind};
 use block::BlockAnswer;
@@ -17,7 +16,6 @@ use control::{
     SnapshotAnswered, StopAnswer, StopAnswered,
 };
 use counts::{ClockFrame, Handle, SongFrame};
-use dryrun::{DryAnswer, DryDone};
 use oneshot::Voices;
 use pump::{PumpAnswer, Pumped};
 use ramp::Ramp;
@@ -195,25 +193,6 @@ pub struct HostSalvage {
     pub ranges: usize,
 }
 
-/// What a dry run gives: how many commands the tour has, how many the replay took, how many were executed and how many are still
-/// queued, and where the playhead is then; or a refusal's number and its place.
-#[repr(C)]
-#[derive(Clone, Copy)]
-pub struct HostDryRun {
-    pub refusal: u32,
-    pub place: usize,
-    pub commands: usize,
-    pub taken: usize,
-    pub executed: usize,
-    pub queued: usize,
-    pub clock: ClockFrame,
-    pub song: Handle,
-    pub state: u32,
-    pub position: SongFrame,
-    pub looped: HostLoop,
-    pub laps: u64,
-}
-
 #[repr(C)]
 #[derive(Clone, Copy)]
 pub struct HostReplayed {
@@ -318,7 +297,7 @@ fn state_of(n: u32) -> TransportState
     TransportState::Stopped
 }
 
-fn state_number(state: TransportState) -> u32
+pub fn state_number(state: TransportState) -> u32
     ensures { result ≡ state_number state }
 {
     match state {
@@ -358,7 +337,7 @@ fn loop_of(x: HostLoop) -> LoopRange
     LoopRange::Off
 }
 
-fn loop_numbers(x: LoopRange) -> HostLoop
+pub fn loop_numbers(x: LoopRange) -> HostLoop
     ensures { result ≡ loop_numbers x }
 {
     match x {
@@ -897,62 +876,6 @@ fn salvaged(a: SalvageAnswer) -> HostSalvage
     }
 }
 
-fn dry_run_refused(number: u32, place: usize) -> HostDryRun
-    ensures { result ≡ dry_run_refused number place }
-{
-    HostDryRun {
-        refusal: number,
-        place,
-        commands: 0,
-        taken: 0,
-        executed: 0,
-        queued: 0,
-        clock: ClockFrame(0),
-        song: Handle { slot: 0, serial: 0 },
-        state: 0,
-        position: SongFrame(0),
-        looped: loop_numbers(LoopRange::Off),
-        laps: 0,
-    }
-}
-
-fn dry_run_done(d: DryDone) -> HostDryRun
-    ensures { result ≡ dry_run_done d }
-{
-    let run = d.run;
-    let dry = run.dry;
-    let clock = dry.clock;
-    let playhead = dry.playhead;
-    let song = playhead.song;
-    let t = playhead.transport;
-    let state = t.state;
-    let position = t.position;
-    let looped = t.looped;
-    HostDryRun {
-        refusal: 0,
-        place: 0,
-        commands: d.commands,
-        taken: d.report.taken,
-        executed: run.rows,
-        queued: run.queued,
-        clock,
-        song,
-        state: state_number(state),
-        position,
-        looped: loop_numbers(looped),
-        laps: t.laps,
-    }
-}
-
-fn dry_run_answered(a: DryAnswer) -> HostDryRun
-    ensures { result ≡ dry_run_by a }
-{
-    match a {
-        DryAnswer::Done(d) => dry_run_done(d),
-        DryAnswer::Refused(x, place) => dry_run_refused(x.number(), place),
-    }
-}
-
 fn replay_refused(number: u32, h: HostSession) -> HostReplayed
     ensures { result ≡ replay_refused h number }
 {
@@ -1318,24 +1241,6 @@ pub fn threshreed_salvage(file: &[u8], out: &mut [u8], list: &mut [u64]) -> Host
 {
     let a = remains::salvage(file, out, list);
     salvaged(a)
-}
-
-/// Runs a recorded tour without its sound: its records and why each is skipped, what is still queued, and the sheet of what
-/// was executed.
-pub fn threshreed_dry_run(
-    mode: u32,
-    clips: &[u64],
-    file: &[u8],
-    blocks: &[u64],
-    records: &mut [u64; 1280],
-    reasons: &mut [u64; 256],
-    queue: &mut [u64; 1280],
-    sheet: &mut [u64; 2560],
-) -> HostDryRun
-    ensures { ◌≡◌ {A = HostDryRun × Lent} (result, lent records.new reasons.new queue.new sheet.new) (dry_run_host mode clips.now file.now blocks.now (lent records.old reasons.old queue.old sheet.old)) }
-{
-    let a = dryrun::dry_run(mode, clips, file, blocks, records, reasons, queue, sheet);
-    dry_run_answered(a)
 }
 
 /// Starts capture, empty.

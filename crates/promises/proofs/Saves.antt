@@ -41,15 +41,24 @@ use Rattle.session.specs.WellFormed.{well_formed}
 use Rattle.session.proofs.Parts.{parts}
 use Rattle.session.proofs.Ranged.{ranged}
 use Rattle.session.proofs.Refuse.{passed, gives_fine}
-use Rattle.clips.specs.Own.{slot_word, clips_of}
-use Rattle.clips.proofs.Own.{word_at}
 use Rattle.control.specs.declared.StopAnswered.{StopAnswered}
 use Rattle.control.specs.Answer.{says_stop}
 use Rattle.control.specs.Capture.{weigh_stop, stop_capture_of}
 use Rattle.control.proofs.Capture.{fine_room, stop_done}
-use Rattle.promises.specs.Tours.{CaptureSaves}
+use Rattle.promises.specs.Tours.{slot_word, slot_words, clips_of, CaptureSaves}
 
 -- ---- the session's own list
+
+-- the word at a place is its slot's
+slots_at : (b : Bank) (k i j m : ℕ) → j < k → i + j ≡ m → get_or (slot_words b i k) j 0 ≡ slot_word b m
+unfolding slot_words
+slots_at b zero i j m l e = absurd (omega arith)
+slots_at b (suc k) i zero m l e = let same : i ≡ m = omega arith in ap (slot_word b) same
+slots_at b (suc k) i (suc j) m l e = slots_at b k (i + 1) j m (omega arith) (omega arith)
+
+word_at : (b : Bank) (i : ℕ) → i < 32 → get_or (clips_of b) i 0 ≡ slot_word b i
+unfolding clips_of
+word_at b i l = slots_at b _ 0 i i (omega arith) (zero-add i)
 
 -- a kind that is neither 9 nor 10 has no clip
 no_clip_law : (k : ℕ) → eqb k 9 ≡ false → eqb k 10 ≡ false → has_clip k ≡ false

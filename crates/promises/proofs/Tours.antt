@@ -1,4 +1,4 @@
--- The exported reader, writer, salvage and dry run say and leave what the calls do.
+-- The exported reader, writer and salvage say and leave what the calls do.
 use mathlib.Core.Path.{◌≡◌, refl}
 use mathlib.Core.Bool.{false}
 use lib.ListN.{length}
@@ -10,12 +10,8 @@ use Rattle.tourfile.specs.Reader.{read_of}
 use Rattle.tourfile.specs.Writer.{records_of, write_of}
 use Rattle.remains.specs.declared.SalvageAnswer.{SalvageAnswer}
 use Rattle.remains.specs.Salvage.{salvage_of, says_salvage}
-use Rattle.dryrun.specs.declared.DryRefusal.{DryRefusal}
-use Rattle.dryrun.specs.declared.DryAnswer.{DryAnswer}
-use Rattle.dryrun.specs.Call.{dry_number, says_dry, dry_run_of}
-use Rattle.host.specs.Answers.{toured_by, says_tour_by, salvaged_by, says_salvage_by, dry_run_by, says_dry_by}
-use Rattle.host.specs.Calls.{read_tour_host, write_tour_host, salvage_host, dry_run_host}
-use Rattle.host.proofs.Round.{state_back, loop_back}
+use Rattle.host.specs.Answers.{toured_by, says_tour_by, salvaged_by, says_salvage_by}
+use Rattle.host.specs.Calls.{read_tour_host, write_tour_host, salvage_host}
 use Rattle.promises.specs.Tours.{HostTours}
 
 -- no fault's number is 0
@@ -44,21 +40,10 @@ salvaged_says : (a : SalvageAnswer) → says_salvage_by (salvaged_by a) ≡ says
 salvaged_says (SalvageAnswer.Done t) = refl
 salvaged_says (SalvageAnswer.Refused x) = rw (number_some x) refl
 
-refusal_some : (x : DryRefusal) → eqb (dry_number x) 0 ≡ false
-refusal_some DryRefusal.Clips = refl
-refusal_some (DryRefusal.Tour x) = number_some x
-refusal_some DryRefusal.Commands = refl
-refusal_some DryRefusal.Clock = refl
-
-dry_says : (a : DryAnswer) → says_dry_by (dry_run_by a) ≡ says_dry a
-dry_says (DryAnswer.Done d) = rw (state_back d.run.dry.playhead.transport.state, loop_back d.run.dry.playhead.transport.looped) refl
-dry_says (DryAnswer.Refused x at) = rw (refusal_some x) refl
-
 pub host_tours : HostTours
-unfolding read_tour_host write_tour_host salvage_host dry_run_host
+unfolding read_tour_host write_tour_host salvage_host
 host_tours = record {
   reads = λ clips file list. (toured_says (read_of clips file (length list)), refl);
   writes = λ clips records out. (toured_says (write_of clips (records_of records) (length out)), refl);
   salvages = λ file out list. (salvaged_says (salvage_of file (length out) (length list)), refl, refl);
-  dry_runs = λ mode clips file blocks x. (dry_says (dry_run_of mode clips file blocks x).0, refl);
 }

@@ -1,18 +1,19 @@
 -- A tour's file for a host of the exported functions, and of what a capture holds. Definitions only.
-use Rattle.std.specs.Prelude.{◌≡◌, List, ℕ, ◌*◌, ◌^◌, ◌≤◌, ◌<◌, length, take}
+use Rattle.std.specs.Prelude.{◌≡◌, cond, List, [], ◌∷◌, ℕ, zero, suc, ◌+◌, ◌*◌, ◌^◌, ◌≤◌, ◌<◌, length, take}
 use Rattle.timeline.specs.declared.Row.{Row}
+use Rattle.timeline.specs.Record.{handle_word}
 use Rattle.tourfile.specs.Answer.{says_tour, refuses, gives as gives_tour}
 use Rattle.tourfile.specs.Reader.{read_of, read_into}
 use Rattle.tourfile.specs.Writer.{records_of, file_of, write_of, write_into}
 use Rattle.remains.specs.Salvage.{salvage_of, says_salvage, salvage_out, salvage_list}
+use Rattle.bank.specs.declared.Bank.{Bank}
+use Rattle.bank.specs.Slots.{used_at, clip_in, handle_of}
 use Rattle.session.specs.declared.Session.{Session}
 use Rattle.session.specs.Answer.{gives}
-use Rattle.clips.specs.Own.{clips_of}
 use Rattle.control.specs.Answer.{says_stop}
 use Rattle.control.specs.Capture.{stop_capture_of}
-use Rattle.dryrun.specs.Call.{Lent, says_dry, dry_run_of}
-use Rattle.host.specs.Answers.{says_tour_by, says_salvage_by, says_dry_by}
-use Rattle.host.specs.Calls.{read_tour_host, write_tour_host, salvage_host, dry_run_host}
+use Rattle.host.specs.Answers.{says_tour_by, says_salvage_by}
+use Rattle.host.specs.Calls.{read_tour_host, write_tour_host, salvage_host}
 
 -- each says and leaves what its call does
 pub record HostTours : Type 0 where
@@ -23,8 +24,19 @@ pub record HostTours : Type 0 where
   pub salvages : (file out list : List ℕ)
       → (says_salvage_by (salvage_host file out list).0 ≡ says_salvage (salvage_of file (length out) (length list)))
       × ((salvage_host file out list).1 ≡ salvage_out file out (length list)) × ((salvage_host file out list).2 ≡ salvage_list file (length out) list)
-  pub dry_runs : (mode : ℕ) (clips file blocks : List ℕ) (x : Lent)
-      → (says_dry_by (dry_run_host mode clips file blocks x).0 ≡ says_dry (dry_run_of mode clips file blocks x).0) × ((dry_run_host mode clips file blocks x).1 ≡ (dry_run_of mode clips file blocks x).1)
+
+-- the word of a slot: the handle of its clip, none where it is free
+unfoldable pub slot_word : Bank → ℕ → ℕ
+slot_word b i = cond (used_at b.used i) (handle_word (handle_of i (clip_in b i))) 0
+
+-- those of k slots from slot i on
+unfoldable pub slot_words : Bank → ℕ → ℕ → List ℕ
+slot_words b i zero = []
+slot_words b i (suc k) = slot_word b i ∷ slot_words b (i + 1) k
+
+-- a session's own list: each loaded clip at its slot
+unfoldable pub clips_of : Bank → List ℕ
+clips_of b = slot_words b 0 32
 
 -- whatever a capture that is stopped gives is written with the session's own list, where serials have their 32 bits; a short output alone is refused
 abbrev pub CaptureSaves : Type 0

@@ -4,14 +4,12 @@
 #![tactic(auto)]
 
 ghost use Rattle.std.specs.Prelude.{◌≡◌};
-ghost use Rattle.dryrun.specs.Call.{lent};
 
 use bank::Kind;
 use block::BlockAnswered;
 use clips::LoadAnswered;
 use control::{MetricsAnswered, PerformanceSnapshot, SnapshotAnswered, StopAnswered};
 use counts::{Handle, SongFrame};
-use dryrun::DryAnswer;
 use pump::Pumped;
 use remains::SalvageAnswer;
 use ring::{Drained, SampleRing};
@@ -50,9 +48,6 @@ pub struct TourTwice(pub TourAnswer, pub TourAnswer);
 
 #[derive(Clone, Copy)]
 pub struct SalvageTwice(pub SalvageAnswer, pub SalvageAnswer);
-
-#[derive(Clone, Copy)]
-pub struct DryTwice(pub DryAnswer, pub DryAnswer);
 
 #[derive(Clone, Copy)]
 pub struct StopTwice(pub StopAnswered, pub StopAnswered);
@@ -363,31 +358,4 @@ pub fn salvage(
     let one = remains::salvage(file, out, list);
     let other = remains::salvage(file2, out2, list2);
     SalvageTwice(one, other)
-}
-
-pub fn dry_run(
-    mode: u32,
-    clips: &[u64],
-    file: &[u8],
-    blocks: &[u64],
-    records: &mut [u64; 1280],
-    reasons: &mut [u64; 256],
-    queue: &mut [u64; 1280],
-    sheet: &mut [u64; 2560],
-    clips2: &[u64],
-    file2: &[u8],
-    blocks2: &[u64],
-    records2: &mut [u64; 1280],
-    reasons2: &mut [u64; 256],
-    queue2: &mut [u64; 1280],
-    sheet2: &mut [u64; 2560],
-) -> DryTwice
-    requires { (clips.now ≡ clips2.now) × (file.now ≡ file2.now) × (blocks.now ≡ blocks2.now) × (lent records.old reasons.old queue.old sheet.old ≡ lent records2.old reasons2.old queue2.old sheet2.old) }
-    ensures { (result.0 ≡ result.1) × (lent records.new reasons.new queue.new sheet.new ≡ lent records2.new reasons2.new queue2.new sheet2.new) }
-{
-    let one = dryrun::dry_run(mode, clips, file, blocks, records, reasons, queue, sheet);
-    let other = dryrun::dry_run(
-        mode, clips2, file2, blocks2, records2, reasons2, queue2, sheet2,
-    );
-    DryTwice(one, other)
 }
