@@ -1,0 +1,16 @@
+-- `open` meets its contract: refused, it leaves the pool and no session; else it loads the song.
+use mathlib.Core.Path.{sym, ◌∙◌}
+use Rattle.session.proofs.Refuse.{unless_refused}
+use Rattle.clips.specs.Open.{open_of}
+use Rattle.clips.proofs.Opened.{open_ready, open_done_law}
+use Rattle.clips.proofs.open.Goals as goal
+
+pub open_song-requires : goal.open_song-requires
+open_song-requires c = open_ready _ _ _ _ _ _ _ (sym c.weigh_open-weighed.ensures ∙ c.in-Fine.is)
+
+pub returns-in-Refused : goal.returns-in-Refused
+unfolding open_of
+returns-in-Refused c = rw c.no_session.ensures (sym (unless_refused _ _ _ _ (sym c.weigh_open-weighed.ensures ∙ c.in-Refused.is)))
+
+pub returns-in-Fine : goal.returns-in-Fine
+returns-in-Fine c = c.open_song.ensures ∙ sym (open_done_law _ _ _ _ _ _ _ (sym c.weigh_open-weighed.ensures ∙ c.in-Fine.is))
