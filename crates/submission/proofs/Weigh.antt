@@ -6,7 +6,7 @@ use mathlib.Core.List.{List}
 use Prim.Native.Nat.{ℕ, ◌+◌, ◌-◌, ◌^◌, ◌≤◌, ◌<◌}
 use native.Mathlib.Omega.{arith}
 use borrow.Author.Tests.{leb-false, eqb-false, not-false as not-off}
-use Rattle.counts.proofs.Truth.{not_true, not-false, or_false}
+use Rattle.counts.proofs.Truth.{not_true, not_false, or_false}
 use Rattle.timeline.specs.declared.Command.{Command}
 use Rattle.timeline.specs.Command.{claim_of, takes_voice, gain_ok, is_senseless}
 use Rattle.timeline.specs.Queue.{stingers}
@@ -44,7 +44,7 @@ module _ (s : Session) (q : List ℕ) (spare : Bool) (x : Command) where
       record {
         gain = not-off (gain_ok x) a14.0;
         sense = a22.0;
-        claim = not-false (or_false (or_false a11.0 a12.0) a13.0);
+        claim = not_false (or_false (or_false a11.0 a12.0) a13.0);
         depth = leb-false _ _ a15.0;
         room = not-off spare a16.0;
         voice = λ v. eqb-false _ _ (rw v at a17.0);

@@ -15,11 +15,8 @@ use Rattle.session.specs.declared.Weighed.{Weighed}
 use Rattle.session.specs.Refusal.{first}
 use Rattle.submission.specs.Weigh.{weigh_command, scales_of, stands_now}
 use Rattle.submission.specs.Replay.{weigh_replayed}
-use borrow.Author.Rules.{rules}
-use Rattle.submission.proofs.weigh_replayed.Statement.{statement}
-use Rattle.submission.proofs.weigh_replayed.Tie as tie
+use Rattle.submission.proofs.weigh_replayed.Goals as goal
 
--- what the code answers for each reading
 abbrev answer : Session → List ℕ → Reading → Weighed
 answer s q Reading.Unreadable = Weighed.Refused Refusal.Unreadable
 answer s q Reading.GainRefused = Weighed.Refused Refusal.BadGain
@@ -43,49 +40,13 @@ module _ (s : Session) (q : List ℕ) (x : Row) where
   answers : (r : Reading) → reading_of x ≡ r → answer s q r ≡ weigh_replayed s q x
   answers r e = ap (answer s q) (sym e) ∙ reads
 
-read-requires : tie.Need-read-requires
-read-requires c κs = search rules
+pub returns-in-Unreadable : goal.returns-in-Unreadable
+returns-in-Unreadable c = answers _ _ _ _ (sym c.read-reading.ensures ∙ c.in-Unreadable.is)
 
-enum_told : tie.Need-enum-told
-enum_told c = search rules
+pub returns-in-GainRefused : goal.returns-in-GainRefused
+returns-in-GainRefused c = answers _ _ _ _ (sym c.read-reading.ensures ∙ c.in-GainRefused.is)
 
-enum-told-2 : tie.Need-enum-told-2
-enum-told-2 c = search rules
-
-enum-known-reading : tie.Need-enum-known-reading
-enum-known-reading c = search rules
-
-scales-of-requires : tie.Need-scales-of-requires
-scales-of-requires c κs = search rules
-
-stands-now-requires : tie.Need-stands-now-requires
-stands-now-requires c κs = search rules
-
-weigh-command-requires : tie.Need-weigh-command-requires
-weigh-command-requires c κs = search rules
-
-returns : tie.Need-returns
-returns c = answers _ _ _ _ (sym c.before.before.read.ensures ∙ c.enum_told.given.1)
-
-returns-2 : tie.Need-returns-2
-returns-2 c = answers _ _ _ _ (sym c.before.before.read.ensures ∙ c.enum-told2.given.1)
-
-returns-3 : tie.Need-returns-3
-returns-3 c =
-    (rw (c.before.before.scales-of.ensures, c.before.stands-now.ensures) at c.weigh-command.ensures)
-    ∙ answers _ _ _ _ (sym c.before.before.before.before.before.before.read.ensures ∙ c.before.before.before.before.reading.given.1)
-
-pub weigh-replayed-spec : {M : Type 1} → statement M
-weigh-replayed-spec =
-    tie.close
-    (tie.spec
-    read-requires
-    enum_told
-    enum-told-2
-    enum-known-reading
-    scales-of-requires
-    stands-now-requires
-    weigh-command-requires
-    returns
-    returns-2
-    returns-3)
+pub returns-in-Record : goal.returns-in-Record
+returns-in-Record c =
+    (rw (c.scales_of-scales.ensures, c.stands_now-stands.ensures) at c.weigh_command.ensures)
+    ∙ answers _ _ _ _ (sym c.read-reading.ensures ∙ c.in-Record.is)

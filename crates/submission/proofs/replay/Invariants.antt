@@ -1,0 +1,12 @@
+-- `replay` meets its contract: after i records it stands where the definition says.
+use mathlib.Core.Path.{◌≡◌}
+use Prim.Native.Nat.{◌-◌, ◌≤◌}
+use lib.ListN.{length}
+use Rattle.submission.specs.Replay.{standing, replayed}
+use Rattle.submission.proofs.replay.Given as goal
+
+abbrev pub invariant-loop-i : goal.invariant-loop-i
+invariant-loop-i l = (l.i ≤ l.n) × (length l.queue ≡ length l.initial.queue) × (standing l.z l.queue ≡ replayed l.initial.z.session l.initial.queue l.list l.i)
+
+abbrev pub decreases-loop-i : goal.decreases-loop-i
+decreases-loop-i l = l.n - l.i

@@ -1,0 +1,18 @@
+-- `submit` meets its contract: refused, or taken.
+use mathlib.Core.Path.{sym, ◌∙◌}
+use Rattle.session.proofs.Refuse.{unless_fine, unless_refused}
+use Rattle.submission.specs.Submit.{weigh_submit, submit_of}
+use Rattle.submission.proofs.Ready.{not_refused}
+use Rattle.submission.proofs.submit.Goals as goal
+
+pub take-requires : goal.take-requires
+unfolding weigh_submit
+take-requires c = rw c.command.ensures (not_refused _ _ _ _ (sym c.weigh_submit-weighed.ensures ∙ c.in-Fine.is))
+
+pub returns-in-Fine : goal.returns-in-Fine
+unfolding submit_of
+returns-in-Fine c = rw c.command.ensures at c.take.ensures ∙ sym (unless_fine _ _ _ (sym c.weigh_submit-weighed.ensures ∙ c.in-Fine.is))
+
+pub returns-in-Refused : goal.returns-in-Refused
+unfolding submit_of
+returns-in-Refused c = rw c.refuse.ensures (sym (unless_refused _ _ _ _ (sym c.weigh_submit-weighed.ensures ∙ c.in-Refused.is)))
