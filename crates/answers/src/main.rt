@@ -10,28 +10,32 @@ mod rows;
 mod told;
 mod walk;
 
+use std::io;
 use walk::ROOM;
 
 /// Reads a list; what cannot be read is a list without a line.
-fn read(bytes: &mut [u8; ROOM], name: &[u8]) -> usize {
-    let fd = os::open_read(name);
-    if fd < 0 {
-        return 0;
+fn read(rt: &HostRuntime, bytes: &mut [u8; ROOM], name: &[u8]) -> usize {
+    match files::open(rt, name) {
+        Ok(file) => {
+            let mut file = file;
+            files::fill(&mut file, bytes).unwrap_or(0)
+        }
+        Err(_) => 0,
     }
-    let count = io::read_full(fd, bytes);
-    libc::close(fd);
-    count
 }
 
-fn replay(bytes: &mut [u8; ROOM], name: &[u8]) {
-    let count = read(bytes, name);
-    walk::list(bytes, count);
+fn replay(rt: &HostRuntime, bytes: &mut [u8; ROOM], name: &[u8]) -> io::Result<()> {
+    let count = read(rt, bytes, name);
+    walk::list(rt, bytes, count)
 }
 
 /// The Rust's answers, and then a list that is wrong: what finds nothing in the first must find that.
-fn main() {
+fn main(rt: HostRuntime) -> io::Result<()> {
     let mut bytes = [0; ROOM];
-    replay(&mut bytes, b"answers");
-    print::text(b"\na list in which one number is wrong for each kind of call\n");
-    replay(&mut bytes, b"mistaken");
+    replay(&rt, &mut bytes, b"answers")?;
+    print::text(
+        &rt,
+        b"\na list in which one number is wrong for each kind of call\n",
+    )?;
+    replay(&rt, &mut bytes, b"mistaken")
 }

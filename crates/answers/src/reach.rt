@@ -5,6 +5,7 @@ use crate::rows::row;
 use counts::Handle;
 use session::Session;
 use stage::Tail;
+use std::io;
 use transport::{LoopRange, TransportState};
 
 /// No frame that a clock reaches.
@@ -271,36 +272,36 @@ impl Reached {
         self
     }
 
-    pub fn print(self) {
-        row(b"sessions", self.sessions);
-        row(b"calls", self.calls);
-        row(b"blocks", self.blocks);
-        row(b"frames", self.frames);
-        self.print_sounds();
-        self.print_places();
-        self.print_blocks();
+    pub fn print(self, rt: &impl Print) -> io::Result<()> {
+        row(rt, b"sessions", self.sessions)?;
+        row(rt, b"calls", self.calls)?;
+        row(rt, b"blocks", self.blocks)?;
+        row(rt, b"frames", self.frames)?;
+        self.print_sounds(rt)?;
+        self.print_places(rt)?;
+        self.print_blocks(rt)
     }
 
-    fn print_sounds(self) {
-        row(b"16 voices", self.voices);
-        row(b"two due at a block's end", self.due);
-        row(b"a swap in a swap", self.swap);
-        row(b"a tail while paused", self.paused);
-        row(b"a tail that ends inside a block", self.tail);
+    fn print_sounds(self, rt: &impl Print) -> io::Result<()> {
+        row(rt, b"16 voices", self.voices)?;
+        row(rt, b"two due at a block's end", self.due)?;
+        row(rt, b"a swap in a swap", self.swap)?;
+        row(rt, b"a tail while paused", self.paused)?;
+        row(rt, b"a tail that ends inside a block", self.tail)
     }
 
-    fn print_places(self) {
-        row(b"a seek past a loop's end", self.seek);
-        row(b"rule a", self.rule);
-        row(b"a transition over a transition", self.over);
-        row(b"a replay into a full queue", self.full);
-        row(b"a gain ride cut short", self.ride);
+    fn print_places(self, rt: &impl Print) -> io::Result<()> {
+        row(rt, b"a seek past a loop's end", self.seek)?;
+        row(rt, b"rule a", self.rule)?;
+        row(rt, b"a transition over a transition", self.over)?;
+        row(rt, b"a replay into a full queue", self.full)?;
+        row(rt, b"a gain ride cut short", self.ride)
     }
 
-    fn print_blocks(self) {
-        row(b"blocks of 0 frames", self.none);
-        row(b"blocks of 1 frame", self.one);
-        row(b"blocks of 4,096 frames", self.most);
-        row(b"room used again", self.room);
+    fn print_blocks(self, rt: &impl Print) -> io::Result<()> {
+        row(rt, b"blocks of 0 frames", self.none)?;
+        row(rt, b"blocks of 1 frame", self.one)?;
+        row(rt, b"blocks of 4,096 frames", self.most)?;
+        row(rt, b"room used again", self.room)
     }
 }

@@ -9,6 +9,7 @@ use crate::rows::{from, row};
 use crate::told::{Seat, Told};
 use crate::{asked, calls, lines, reach};
 use print::{number, text};
+use std::io;
 
 /// The most bytes that a list has.
 const MOST: usize = 500000;
@@ -61,46 +62,46 @@ impl Walk {
     }
 
     /// Which session and which line.
-    fn place(self) {
-        text(b"session ");
-        number(self.reached.sessions);
-        text(b", line ");
-        number(self.line);
+    fn place(self, rt: &impl Print) -> io::Result<()> {
+        text(rt, b"session ")?;
+        number(rt, self.reached.sessions)?;
+        text(rt, b", line ")?;
+        number(rt, self.line)
     }
 
     /// A line that is none of the list's ends the walk.
-    fn unreadable(mut self) -> Walk {
-        self.place();
-        text(b": no line of the list\n");
+    fn unreadable(mut self, rt: &impl Print) -> io::Result<Walk> {
+        self.place(rt)?;
+        text(rt, b": no line of the list\n")?;
         self.over = true;
-        self.differs()
+        Ok(self.differs())
     }
 
     /// The last line: as many sessions as the first line names, and nothing behind it.
-    fn ended(mut self, size: usize) -> Walk {
+    fn ended(mut self, rt: &impl Print, size: usize) -> io::Result<Walk> {
         self.over = true;
         if (self.reached.sessions == self.named) & (self.next == size) {
-            return self;
+            return Ok(self);
         }
-        self.place();
-        text(b": not the end that the first line names\n");
-        self.differs()
+        self.place(rt)?;
+        text(rt, b": not the end that the first line names\n")?;
+        Ok(self.differs())
     }
 
     /// The next line: a call, or the end.
-    fn read(mut self, text: &[u8]) -> Walk {
+    fn read(mut self, rt: &impl Print, text: &[u8]) -> io::Result<Walk> {
         let r = lines::at(text, self.next);
         let l = r.line;
         self.asks = l;
         self.next = r.next;
         self.line = std::num::wrapping_add_u64(self.line, 1);
         if l.is_only(0) {
-            return self.ended(text.len());
+            return self.ended(rt, text.len());
         }
         if asked::is_call(l) {
-            return self;
+            return Ok(self);
         }
-        self.unreadable()
+        self.unreadable(rt)
     }
 
     /// A call is over: our side stands as it left it.
@@ -126,22 +127,27 @@ impl Walk {
         if lines::same(rust, ours) {
             return self;
         }
-        if self.differences < TOLD {
-            self.place();
-            both(rust, ours);
-        }
         self.differs()
+    }
+
+    /// Where there were fewer differences before the call, tells the one that it made, as long as they are told.
+    fn tell(self, rt: &impl Print, ours: Line, before: u64) -> io::Result<()> {
+        if (self.differences == before) | (before >= TOLD) {
+            return Ok(());
+        }
+        self.place(rt)?;
+        both(rt, self.asks, ours)
     }
 }
 
 /// What the Rust said and what we have.
-fn both(rust: Line, ours: Line) {
+fn both(rt: &impl Print, rust: Line, ours: Line) -> io::Result<()> {
     let asks = asked::asks(rust.words[0]);
-    text(b": the Rust");
-    from(rust, asks);
-    text(b"; we");
-    from(ours, asks);
-    text(b"\n");
+    text(rt, b": the Rust")?;
+    from(rt, rust, asks)?;
+    text(rt, b"; we")?;
+    from(rt, ours, asks)?;
+    text(rt, b"\n")
 }
 
 /// A call that changes no store.
@@ -218,26 +224,29 @@ fn call(
 
 /// One line.
 fn turn(
+    rt: &impl Print,
     w: Walk,
     text: &[u8],
     queue: &mut [u64; WORDS],
     capture: &mut [u64; WORDS],
     list: &mut [u64; WORDS],
     pool: &mut [f32; SAMPLES],
-) -> Walk {
-    let here = w.read(text);
+) -> io::Result<Walk> {
+    let here = w.read(rt, text)?;
     if here.over {
-        return here;
+        return Ok(here);
     }
     let seat = here.seat;
     let l = here.asks;
     let told = call(seat, queue, capture, list, pool, l);
     let first = reach::first(told.seat.session, queue);
-    here.called(told, first)
+    let after = here.called(told, first);
+    after.tell(rt, told.ours, here.differences)?;
+    Ok(after)
 }
 
 /// Every line after the first.
-fn rest(w: Walk, text: &[u8]) -> Walk {
+fn rest(rt: &impl Print, w: Walk, text: &[u8]) -> io::Result<Walk> {
     let mut queue = [0; WORDS];
     let mut capture = [0; WORDS];
     let mut list = [0; WORDS];
@@ -245,35 +254,34 @@ fn rest(w: Walk, text: &[u8]) -> Walk {
     let mut w = w;
     let mut turns = MOST;
     while turns > 0 {
-        w = turn(w, text, &mut queue, &mut capture, &mut list, &mut pool);
+        w = turn(rt, w, text, &mut queue, &mut capture, &mut list, &mut pool)?;
         if w.over {
-            return w;
+            return Ok(w);
         }
         turns -= 1;
     }
-    w.unreadable()
+    w.unreadable(rt)
 }
 
 /// The first line has the number of sessions.
-fn all(text: &[u8]) -> Walk {
+fn all(rt: &impl Print, text: &[u8]) -> io::Result<Walk> {
     let r = lines::at(text, 0);
     let l = r.line;
     let w = Walk::start(l, r.next);
     if l.is_only(l.words[0]) {
-        return rest(w, text);
+        return rest(rt, w, text);
     }
-    w.unreadable()
+    w.unreadable(rt)
 }
 
 /// The list is the first `count` of these bytes.
-pub fn list(bytes: &[u8; ROOM], count: usize) {
+pub fn list(rt: &impl Print, bytes: &[u8; ROOM], count: usize) -> io::Result<()> {
     if count > MOST {
-        text(b"the list is too long\ndifferences: 1\n");
-        return;
+        return text(rt, b"the list is too long\ndifferences: 1\n");
     }
     let whole: &[u8] = bytes;
-    let w = all(&whole[..count]);
+    let w = all(rt, &whole[..count])?;
     let reached = w.reached;
-    reached.print();
-    row(b"differences", w.differences);
+    reached.print(rt)?;
+    row(rt, b"differences", w.differences)
 }

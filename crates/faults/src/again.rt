@@ -5,31 +5,32 @@ use crate::table::{Task, file_of, list_of, table};
 use crate::told::{bytes, case, done, read_answer, words, write_answer};
 use crate::writer::write_first;
 use print::text;
+use std::io;
 use tourfile::TourAnswer;
 
 /// What stands between version and count in the first n bytes of an output.
-fn between(out: &[u8], n: usize) {
+fn between(rt: &impl Print, out: &[u8], n: usize) -> io::Result<()> {
     if n < 10 {
-        return;
+        return Ok(());
     }
     if n > out.len() {
-        return;
+        return Ok(());
     }
-    bytes(&out[5..n - 5]);
+    bytes(rt, &out[5..n - 5])
 }
 
 /// One record, written and read again: the command's field, and the words.
-pub fn write(hex: &[u8]) {
+pub fn write(rt: &impl Print, hex: &[u8]) -> io::Result<()> {
     let mut list = [0; 15];
     let mut out = [0; 46];
     let mut second = [9; 5];
     let given = list_of(hex, &mut list);
     let n = done(write_first(&list, given, &mut out));
     read_first(&out, n, &mut second);
-    text(b"field");
-    between(&out, n);
-    text(b", record");
-    words(&second);
+    text(rt, b"field")?;
+    between(rt, &out, n)?;
+    text(rt, b", record")?;
+    words(rt, &second)
 }
 
 /// Two stores of a file have the same bytes.
@@ -56,12 +57,11 @@ fn same_words(a: &[u64; 55], b: &[u64; 55]) -> bool {
     true
 }
 
-fn whether(same: bool, yes: &[u8], no: &[u8]) {
+fn whether(rt: &impl Print, same: bool, yes: &[u8], no: &[u8]) -> io::Result<()> {
     if same {
-        text(yes);
-        return;
+        return text(rt, yes);
     }
-    text(no);
+    text(rt, no)
 }
 
 /// Writes the first n records of a list.
@@ -73,7 +73,7 @@ fn write_records(list: &[u64], n: usize, out: &mut [u8]) -> TourAnswer {
 }
 
 /// A file, read, written, and what was written read again.
-pub fn read(hex: &[u8]) {
+pub fn read(rt: &impl Print, hex: &[u8]) -> io::Result<()> {
     let mut file = [0; 300];
     let mut list = [0; 55];
     let mut out = [0; 300];
@@ -82,27 +82,30 @@ pub fn read(hex: &[u8]) {
     let a = read_first(&file, n, &mut list);
     let b = write_records(&list, done(a), &mut out);
     let c = read_first(&out, done(b), &mut second);
-    read_answer(a);
-    text(b", written ");
-    write_answer(b);
+    read_answer(rt, a)?;
+    text(rt, b", written ")?;
+    write_answer(rt, b)?;
     whether(
+        rt,
         (done(b) == n) & same_bytes(&file, &out),
         b", the same file",
         b", another file",
-    );
-    text(b", read again ");
-    read_answer(c);
+    )?;
+    text(rt, b", read again ")?;
+    read_answer(rt, c)?;
     whether(
+        rt,
         same_words(&list, &second),
         b", the same words",
         b", OTHER WORDS",
-    );
+    )
 }
 
 /// 'Frames eight bytes, gains as their four binary32 bits, a clip as one byte 0 to 31.' Words that a kind does not use are not
 /// looked at, and read as 0.
-fn kinds() {
+fn kinds(rt: &impl Print) -> io::Result<()> {
     table(
+        rt,
         Task::WriteAgain,
         b"each kind written and read again, at frame 7 with number 5\n\
           Play: 7 5 1 0 0\n\
@@ -122,11 +125,12 @@ fn kinds() {
           Seek to 10: 7 5 4 a ffffffffffffffff\n\
           Gain -0.0: 7 5 8 80000000 ffffffffffffffff\n\
           Swap to slot 3 serial 7: 7 5 9 300000007 ffffffffffffffff\n",
-    );
+    )
 }
 
-fn files() {
+fn files(rt: &impl Print) -> io::Result<()> {
     table(
+        rt,
         Task::ReadAgain,
         b"files read, written and read again\n\
           all ten kinds, frames falling, gains -0.0, infinity and NaN 0x7fc12345: 0102000100 \
@@ -136,21 +140,21 @@ fn files() {
           version, count 0: 0102000100 0302000000\n\
           version, tag 128 of 0 bytes, Play 5, tag 255 of 1 byte, count 1: \
               0102000100 800000 021100z05y01 ff010009 0302000100\n",
-    );
+    )
 }
 
 /// A file is as many bytes as the writer answers: a longer output is none.
-fn longer() {
+fn longer(rt: &impl Print) -> io::Result<()> {
     let mut out = [0; 31];
     let mut list = [0; 5];
     write_first(&[0, 5, 1, 0, 0], 5, &mut out);
-    case(b"Play 5 written to 31 bytes, all 31 read");
-    read_answer(read_first(&out, 31, &mut list));
-    text(b"\n");
+    case(rt, b"Play 5 written to 31 bytes, all 31 read")?;
+    read_answer(rt, read_first(&out, 31, &mut list))?;
+    text(rt, b"\n")
 }
 
-pub fn all() {
-    kinds();
-    files();
-    longer();
+pub fn all(rt: &impl Print) -> io::Result<()> {
+    kinds(rt)?;
+    files(rt)?;
+    longer(rt)
 }

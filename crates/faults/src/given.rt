@@ -1,5 +1,6 @@
 //! What the cases are given: handles, and lists of 32 of them.
 use print::text;
+use std::io;
 
 /// Slot 3, serial 7.
 pub const THREE: u64 = 0x3_0000_0007;
@@ -37,11 +38,12 @@ pub fn pair(i: usize, x: u64, j: usize, y: u64) -> [u64; 32] {
 }
 
 /// What the words of the cases stand for.
-pub fn legend() {
+pub fn legend(rt: &impl Print) -> io::Result<()> {
     text(
+        rt,
         b"a file is told by its fields, a list by its records: version is version 1, Play 5 a Play with number 5\n\
           handles are listed at 3 (slot 3 serial 7) and at 31 (slot 31 serial 7), everywhere else is serial 0\n\
           a place is a field's first byte, or a record's in its list, or 0 for a fault of neither\n\
           in brackets are the faults that meet\n",
-    );
+    )
 }

@@ -4,29 +4,31 @@ use crate::table::{Task, file_of, list_of, table};
 use crate::told::{bytes, read_answer, words, write_answer};
 use crate::writer::write_first;
 use print::text;
+use std::io;
 
 /// Reads a file into a list of twelve 9s.
-pub fn read(hex: &[u8]) {
+pub fn read(rt: &impl Print, hex: &[u8]) -> io::Result<()> {
     let mut file = [0; 300];
     let mut list = [9; 12];
     let n = file_of(hex, &mut file);
-    read_answer(read_first(&file, n, &mut list));
-    text(b", then");
-    words(&list);
+    read_answer(rt, read_first(&file, n, &mut list))?;
+    text(rt, b", then")?;
+    words(rt, &list)
 }
 
 /// Writes records to an output of 32 9s.
-pub fn write(hex: &[u8]) {
+pub fn write(rt: &impl Print, hex: &[u8]) -> io::Result<()> {
     let mut list = [0; 15];
     let mut out = [9; 32];
     let n = list_of(hex, &mut list);
-    write_answer(write_first(&list, n, &mut out));
-    text(b", then");
-    bytes(&out);
+    write_answer(rt, write_first(&list, n, &mut out))?;
+    text(rt, b", then")?;
+    bytes(rt, &out)
 }
 
-pub fn all() {
+pub fn all(rt: &impl Print) -> io::Result<()> {
     table(
+        rt,
         Task::ReadLeft,
         b"what the reader leaves in a list of twelve 9s\n\
           version, Play 5 at frame 7, count 1: 0102000100 02110007y05y01 0302000100\n\
@@ -34,13 +36,14 @@ pub fn all() {
           version, Play 5, Play 5, count 2: 0102000100 021100z05y01 021100z05y01 0302000200\n\
           version, Play 5, count 1, a byte: 0102000100 021100z05y01 0302000100 00\n\
           version, Play 5, Play 6, Play 7, count 3: 0102000100 021100z05y01 021100z06y01 021100z07y01 0302000300\n",
-    );
+    )?;
     table(
+        rt,
         Task::WriteLeft,
         b"what the writer leaves in an output of 32 9s\n\
           Play 5 at frame 7: 7 5 1 0 0\n\
           no records:\n\
           Play 5, Play 5: 0 5 1 0 0, 0 5 1 0 0\n\
           Play 5, Play 6: 0 5 1 0 0, 0 6 1 0 0\n",
-    );
+    )
 }

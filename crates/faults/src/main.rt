@@ -11,13 +11,15 @@ mod table;
 mod told;
 mod writer;
 
-fn main() {
-    given::legend();
-    reader::all();
-    order::all();
-    writer::all();
-    left::all();
-    again::all();
-    many::read_all();
-    many::write_all();
+use std::io;
+
+fn main(rt: HostRuntime) -> io::Result<()> {
+    given::legend(&rt)?;
+    reader::all(&rt)?;
+    order::all(&rt)?;
+    writer::all(&rt)?;
+    left::all(&rt)?;
+    again::all(&rt)?;
+    many::read_all(&rt)?;
+    many::write_all(&rt)
 }

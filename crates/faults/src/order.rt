@@ -1,9 +1,11 @@
 //! The reader where two faults stand in one file: 'by lowest first byte of a faulty field, then this order'.
 use crate::table::{Task, table};
+use std::io;
 
 /// The lower place wins, also over a fault that comes earlier in the order.
-fn places() {
+fn places(rt: &impl Print) -> io::Result<()> {
     table(
+        rt,
         Task::Read,
         b"the reader, two faults in one file, the lower place wins\n\
           tag 9 of 2 bytes, count 0 without its last byte (103 at 0, 102 at 5): 0902000100 03020000\n\
@@ -18,13 +20,14 @@ fn places() {
               0102000100 021100z05y01 021100z05y01 021200z06y0902 0302000300\n\
           version, Play 5, Play 5, count 2 without its last byte (109 at 25, 102 at 45): \
               0102000100 021100z05y01 021100z05y01 03020002\n",
-    );
+    )
 }
 
 /// In one field the earlier in the order wins. 103 stands at byte 0 and 104 behind it; a version, a command and a count differ
 /// in their tags, and an unknown kind has no clip: so 103 and 104, 106 and 107, 107 and 108, 110 and 111 never meet.
-fn one_field() {
+fn one_field(rt: &impl Print) -> io::Result<()> {
     table(
+        rt,
         Task::Read,
         b"the reader, two faults in one field, the earlier in the order wins\n\
           tag 9 of 2 bytes without the last (102, 103): 09020001\n\
@@ -50,10 +53,10 @@ fn one_field() {
           version, Play 5, kind 11 with number 5, count 2 (107, 109): 0102000100 021100z05y01 021100z05y0b 0302000200\n\
           version, Play 5, Swap 5 to clip 2, count 2 (108, 109): 0102000100 021100z05y01 021200z05y0902 0302000200\n\
           version, count 1, a byte (111, 112): 0102000100 0302000100 00\n",
-    );
+    )
 }
 
-pub fn all() {
-    places();
-    one_field();
+pub fn all(rt: &impl Print) -> io::Result<()> {
+    places(rt)?;
+    one_field(rt)
 }

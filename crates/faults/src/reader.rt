@@ -3,6 +3,7 @@ use crate::given::{LAST, LATER, NONE, THREE, listed, pair};
 use crate::table::{Task, file_of, table};
 use crate::told::{case, handle, read_answer};
 use print::{number, text};
+use std::io;
 use tourfile::TourAnswer;
 
 /// Reads the first n bytes of a store, which has as many.
@@ -15,29 +16,32 @@ pub fn read_first(file: &[u8], n: usize, list: &mut [u64]) -> TourAnswer {
 }
 
 /// Reads a file into a list for four records.
-pub fn read(hex: &[u8]) {
+pub fn read(rt: &impl Print, hex: &[u8]) -> io::Result<()> {
     let mut file = [0; 300];
     let mut list = [0; 20];
     let n = file_of(hex, &mut file);
-    read_answer(read_first(&file, n, &mut list));
+    read_answer(rt, read_first(&file, n, &mut list))
 }
 
 /// Reads the file of no commands with two handles.
-fn two_listed(i: usize, x: u64, j: usize, y: u64) {
+fn two_listed(rt: &impl Print, i: usize, x: u64, j: usize, y: u64) -> io::Result<()> {
     let clips = pair(i, x, j, y);
     let mut list = [0; 0];
-    text(b"  version, count 0, ");
-    handle(i, x);
-    text(b", ");
-    handle(j, y);
-    text(b": ");
-    read_answer(tourfile::read_tour(
-        &clips,
-        b"\x01\x02\0\x01\0\
+    text(rt, b"  version, count 0, ")?;
+    handle(rt, i, x)?;
+    text(rt, b", ")?;
+    handle(rt, j, y)?;
+    text(rt, b": ")?;
+    read_answer(
+        rt,
+        tourfile::read_tour(
+            &clips,
+            b"\x01\x02\0\x01\0\
           \x03\x02\0\0\0",
-        &mut list,
-    ));
-    text(b"\n");
+            &mut list,
+        ),
+    )?;
+    text(rt, b"\n")
 }
 
 /// Reads the file of two Plays into the first n words of a list, which has as many.
@@ -54,19 +58,20 @@ fn read_two(list: &mut [u64], n: usize) -> TourAnswer {
 }
 
 /// Reads it into a list of so many words.
-fn room(n: usize) {
+fn room(rt: &impl Print, n: usize) -> io::Result<()> {
     let mut list = [0; 14];
-    text(b"  version, Play 5, Play 6, count 2, into a list of ");
-    number(n as u64);
-    text(b" words: ");
-    read_answer(read_two(&mut list, n));
-    text(b"\n");
+    text(rt, b"  version, Play 5, Play 6, count 2, into a list of ")?;
+    number(rt, n as u64)?;
+    text(rt, b" words: ")?;
+    read_answer(rt, read_two(&mut list, n))?;
+    text(rt, b"\n")
 }
 
-fn each() {
-    text(b"the reader, each fault once\n");
-    two_listed(3, THREE, 31, THREE);
+fn each(rt: &impl Print) -> io::Result<()> {
+    text(rt, b"the reader, each fault once\n")?;
+    two_listed(rt, 3, THREE, 31, THREE)?;
     table(
+        rt,
         Task::Read,
         b"version: 0102000100\n\
           tag 9 of 2 bytes, count 0: 0902000100 0302000000\n\
@@ -76,19 +81,21 @@ fn each() {
           version, kind 11, count 1: 0102000100 021100z05y0b 0302000100\n\
           version, Swap 5 to clip 2, count 1: 0102000100 021200z05y0902 0302000100\n\
           version, Play 5, Play 5, count 2: 0102000100 021100z05y01 021100z05y01 0302000200\n",
-    );
-    crate::many::one_too_many();
+    )?;
+    crate::many::one_too_many(rt)?;
     table(
+        rt,
         Task::Read,
         b"version, count 1: 0102000100 0302000100\n\
           version, count 0, a byte: 0102000100 0302000000 00\n",
-    );
-    room(9);
+    )?;
+    room(rt, 9)
 }
 
 /// 'Cut short': a field whose bytes run past the end, or a last one that is not there.
-fn ends() {
+fn ends(rt: &impl Print) -> io::Result<()> {
     table(
+        rt,
         Task::Read,
         b"the reader, where a file ends\n\
           an empty file:\n\
@@ -104,13 +111,14 @@ fn ends() {
           version, Play 5, count 1: 0102000100 021100z05y01 0302000100\n\
           version, tag 128 of 0 bytes: 0102000100 800000\n\
           version, tag 128 of 256 bytes, which count 0 does not fill: 0102000100 800001 0302000000\n",
-    );
+    )
 }
 
 /// 'Tag 1 is the version (two bytes, value 1) and comes first', 'tag 3 is the count of commands (two bytes) and comes last', 'tags
 /// 128 to 255 are skipped between first and last; others, a second tag 1 too, are unknown'.
-fn tags() {
+fn tags(rt: &impl Print) -> io::Result<()> {
     table(
+        rt,
         Task::Read,
         b"the reader, first tags\n\
           tag 9 of 0 bytes: 090000\n\
@@ -144,13 +152,14 @@ fn tags() {
           version, count 0, count 0: 0102000100 0302000000 0302000000\n\
           version, Play 5, count 1, Play 6, count 2: 0102000100 021100z05y01 0302000100 021100z06y01 0302000200\n\
           version, count 1, Play 5, count 1 (111, 112): 0102000100 0302000100 021100z05y01 0302000100\n",
-    );
+    )
 }
 
 /// 'Wrong length (a command's: at least 17, by its kind if known)', 'kind (one byte, 1 to 10 in 01's order from Play)', 'a clip as
 /// one byte 0 to 31', 'serial 0 is none', 'numbers rise (the first is free) and frames need not'.
-fn commands() {
+fn commands(rt: &impl Print) -> io::Result<()> {
     table(
+        rt,
         Task::Read,
         b"the reader, lengths\n\
           version of 1 byte, count 0: 01010001 0302000000\n\
@@ -187,75 +196,82 @@ fn commands() {
           version, Play 2^64 - 1, Play 0, count 2: 0102000100 021100zffffffffffffffff01 021100zz01 0302000200\n\
           version, Play 5, Play 9, Play 7, count 3: 0102000100 021100z05y01 021100z09y01 021100z07y01 0302000300\n\
           version, Play 5, tag 128 of 0 bytes, Play 5, count 2: 0102000100 021100z05y01 800000 021100z05y01 0302000200\n",
-    );
+    )
 }
 
 /// 'Both sides first: a handle listed twice.' Slot and serial are the handle, and serial 0 is none.
-fn twice() {
-    text(b"the reader, a handle listed twice\n");
-    two_listed(0, THREE, 1, THREE);
-    two_listed(0, THREE, 31, THREE);
-    two_listed(30, THREE, 31, THREE);
-    two_listed(0, THREE, 31, LATER);
-    two_listed(0, THREE, 31, LAST);
-    two_listed(0, NONE, 31, NONE);
+fn twice(rt: &impl Print) -> io::Result<()> {
+    text(rt, b"the reader, a handle listed twice\n")?;
+    two_listed(rt, 0, THREE, 1, THREE)?;
+    two_listed(rt, 0, THREE, 31, THREE)?;
+    two_listed(rt, 30, THREE, 31, THREE)?;
+    two_listed(rt, 0, THREE, 31, LATER)?;
+    two_listed(rt, 0, THREE, 31, LAST)?;
+    two_listed(rt, 0, NONE, 31, NONE)
 }
 
 /// 'Last, the list for records too short.' Five words are a record, and a remainder is not looked at.
-fn rooms() {
-    text(b"the reader, lists\n");
-    room(0);
-    room(9);
-    room(10);
-    room(14);
+fn rooms(rt: &impl Print) -> io::Result<()> {
+    text(rt, b"the reader, lists\n")?;
+    room(rt, 0)?;
+    room(rt, 9)?;
+    room(rt, 10)?;
+    room(rt, 14)
 }
 
 /// Reads a file into a list of no words.
-fn read_none(what: &[u8], clips: &[u64; 32], file: &[u8]) {
+fn read_none(rt: &impl Print, what: &[u8], clips: &[u64; 32], file: &[u8]) -> io::Result<()> {
     let mut list = [0; 0];
-    case(what);
-    read_answer(tourfile::read_tour(clips, file, &mut list));
-    text(b"\n");
+    case(rt, what)?;
+    read_answer(rt, tourfile::read_tour(clips, file, &mut list))?;
+    text(rt, b"\n")
 }
 
-fn first_and_last() {
-    text(b"the reader, a handle listed twice before all else, the list for records last\n");
+fn first_and_last(rt: &impl Print) -> io::Result<()> {
+    text(
+        rt,
+        b"the reader, a handle listed twice before all else, the list for records last\n",
+    )?;
     let clips = listed();
     let twice = pair(3, THREE, 31, THREE);
     read_none(
+        rt,
         b"an empty file, a handle listed twice (101, 102)",
         &twice,
         b"",
-    );
+    )?;
     read_none(
+        rt,
         b"version, Play 5, count 1, a handle listed twice, no list (101, 113)",
         &twice,
         b"\x01\x02\0\x01\0\
           \x02\x11\0\0\0\0\0\0\0\0\0\x05\0\0\0\0\0\0\0\x01\
           \x03\x02\0\x01\0",
-    );
+    )?;
     read_none(
+        rt,
         b"version, Play 5, count 1, a byte, no list (112, 113)",
         &clips,
         b"\x01\x02\0\x01\0\
           \x02\x11\0\0\0\0\0\0\0\0\0\x05\0\0\0\0\0\0\0\x01\
           \x03\x02\0\x01\0\
           \0",
-    );
+    )?;
     read_none(
+        rt,
         b"version, count 0, no list",
         &clips,
         b"\x01\x02\0\x01\0\
           \x03\x02\0\0\0",
-    );
+    )
 }
 
-pub fn all() {
-    each();
-    ends();
-    tags();
-    commands();
-    twice();
-    rooms();
-    first_and_last();
+pub fn all(rt: &impl Print) -> io::Result<()> {
+    each(rt)?;
+    ends(rt)?;
+    tags(rt)?;
+    commands(rt)?;
+    twice(rt)?;
+    rooms(rt)?;
+    first_and_last(rt)
 }

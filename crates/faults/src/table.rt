@@ -1,6 +1,7 @@
 //! Tables of cases. A line has the words of a case, a colon, and what it is given; a line without a colon is a heading.
 use crate::told::case;
 use print::text;
+use std::io;
 
 /// What is done with what a case is given: a file to read, or records to write.
 #[derive(Clone, Copy)]
@@ -13,38 +14,44 @@ pub enum Task {
     WriteAgain,
 }
 
-fn perform(task: Task, given: &[u8]) {
+fn perform(rt: &impl Print, task: Task, given: &[u8]) -> io::Result<()> {
     match task {
-        Task::Read => crate::reader::read(given),
-        Task::ReadLeft => crate::left::read(given),
-        Task::ReadAgain => crate::again::read(given),
-        Task::Write => crate::writer::write(given),
-        Task::WriteLeft => crate::left::write(given),
-        Task::WriteAgain => crate::again::write(given),
+        Task::Read => crate::reader::read(rt, given),
+        Task::ReadLeft => crate::left::read(rt, given),
+        Task::ReadAgain => crate::again::read(rt, given),
+        Task::Write => crate::writer::write(rt, given),
+        Task::WriteLeft => crate::left::write(rt, given),
+        Task::WriteAgain => crate::again::write(rt, given),
     }
 }
 
 /// The line between two places, with its colon, or the one of an earlier line.
-fn line(task: Task, lines: &[u8], start: usize, colon: usize, end: usize) {
+fn line(
+    rt: &impl Print,
+    task: Task,
+    lines: &[u8],
+    start: usize,
+    colon: usize,
+    end: usize,
+) -> io::Result<()> {
     if end > lines.len() {
-        return;
+        return Ok(());
     }
     if start > end {
-        return;
+        return Ok(());
     }
     if colon >= end {
-        return;
+        return Ok(());
     }
     if colon <= start {
-        text(&lines[start..end]);
-        return;
+        return text(rt, &lines[start..end]);
     }
-    case(&lines[start..colon]);
-    perform(task, &lines[colon + 1..end]);
+    case(rt, &lines[start..colon])?;
+    perform(rt, task, &lines[colon + 1..end])
 }
 
 /// The cases of a table.
-pub fn table(task: Task, lines: &[u8]) {
+pub fn table(rt: &impl Print, task: Task, lines: &[u8]) -> io::Result<()> {
     let mut start: usize = 0;
     let mut colon: usize = 0;
     let mut i: usize = 0;
@@ -54,14 +61,15 @@ pub fn table(task: Task, lines: &[u8]) {
             colon = i;
             i += 1;
         } else if c == b'\n' {
-            line(task, lines, start, colon, i);
-            text(b"\n");
+            line(rt, task, lines, start, colon, i)?;
+            text(rt, b"\n")?;
             start = i + 1;
             i += 1;
         } else {
             i += 1;
         }
     }
+    Ok(())
 }
 
 // ---- what a case is given

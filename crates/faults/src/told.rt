@@ -1,44 +1,46 @@
 //! What the cases are told by: an answer, a handle, the words of a list, the bytes of an output.
 use print::{number, text};
+use std::io;
 use tourfile::{Fault, TourAnswer};
 
 /// The words of a case.
-pub fn case(what: &[u8]) {
-    text(b"  ");
-    text(what);
-    text(b": ");
+pub fn case(rt: &impl Print, what: &[u8]) -> io::Result<()> {
+    text(rt, b"  ")?;
+    text(rt, what)?;
+    text(rt, b": ")
 }
 
 /// So many of a thing.
-fn many(n: usize, thing: &[u8]) {
-    number(n as u64);
-    text(thing);
+fn many(rt: &impl Print, n: usize, thing: &[u8]) -> io::Result<()> {
+    number(rt, n as u64)?;
+    text(rt, thing)?;
     if n != 1 {
-        text(b"s");
+        text(rt, b"s")?;
     }
+    Ok(())
 }
 
 /// A fault by its number, and its place.
-fn refused(x: Fault, at: usize) {
-    text(b"refused ");
-    number(x.number() as u64);
-    text(b" at ");
-    number(at as u64);
+fn refused(rt: &impl Print, x: Fault, at: usize) -> io::Result<()> {
+    text(rt, b"refused ")?;
+    number(rt, x.number() as u64)?;
+    text(rt, b" at ")?;
+    number(rt, at as u64)
 }
 
 /// What the reader answered.
-pub fn read_answer(a: TourAnswer) {
+pub fn read_answer(rt: &impl Print, a: TourAnswer) -> io::Result<()> {
     match a {
-        TourAnswer::Done(n) => many(n, b" record"),
-        TourAnswer::Refused(x, at) => refused(x, at),
+        TourAnswer::Done(n) => many(rt, n, b" record"),
+        TourAnswer::Refused(x, at) => refused(rt, x, at),
     }
 }
 
 /// What the writer answered.
-pub fn write_answer(a: TourAnswer) {
+pub fn write_answer(rt: &impl Print, a: TourAnswer) -> io::Result<()> {
     match a {
-        TourAnswer::Done(n) => many(n, b" byte"),
-        TourAnswer::Refused(x, at) => refused(x, at),
+        TourAnswer::Done(n) => many(rt, n, b" byte"),
+        TourAnswer::Refused(x, at) => refused(rt, x, at),
     }
 }
 
@@ -51,38 +53,40 @@ pub fn done(a: TourAnswer) -> usize {
 }
 
 /// A handle at its place in the list.
-pub fn handle(i: usize, x: u64) {
-    text(b"slot ");
-    number(x / 0x1_0000_0000);
-    text(b" serial ");
-    number(x % 0x1_0000_0000);
-    text(b" at ");
-    number(i as u64);
+pub fn handle(rt: &impl Print, i: usize, x: u64) -> io::Result<()> {
+    text(rt, b"slot ")?;
+    number(rt, x / 0x1_0000_0000)?;
+    text(rt, b" serial ")?;
+    number(rt, x % 0x1_0000_0000)?;
+    text(rt, b" at ")?;
+    number(rt, i as u64)
 }
 
-fn word(w: u64) {
-    text(b" ");
-    number(w);
+fn word(rt: &impl Print, w: u64) -> io::Result<()> {
+    text(rt, b" ")?;
+    number(rt, w)
 }
 
-fn byte(b: u8) {
-    word(b as u64);
+fn byte(rt: &impl Print, b: u8) -> io::Result<()> {
+    word(rt, b as u64)
 }
 
 /// The words of a list.
-pub fn words(list: &[u64]) {
+pub fn words(rt: &impl Print, list: &[u64]) -> io::Result<()> {
     let mut i: usize = 0;
     while i < list.len() {
-        word(list[i]);
+        word(rt, list[i])?;
         i += 1;
     }
+    Ok(())
 }
 
 /// The bytes of an output.
-pub fn bytes(out: &[u8]) {
+pub fn bytes(rt: &impl Print, out: &[u8]) -> io::Result<()> {
     let mut i: usize = 0;
     while i < out.len() {
-        byte(out[i]);
+        byte(rt, out[i])?;
         i += 1;
     }
+    Ok(())
 }

@@ -4,6 +4,7 @@ use crate::given::{THREE, listed, pair};
 use crate::table::{Task, list_of, table};
 use crate::told::{case, write_answer};
 use print::{number, text};
+use std::io;
 use tourfile::TourAnswer;
 
 /// Writes the first n words of a list, which has as many.
@@ -16,11 +17,11 @@ pub fn write_first(records: &[u64], n: usize, out: &mut [u8]) -> TourAnswer {
 }
 
 /// Writes records to an output of 80 bytes.
-pub fn write(hex: &[u8]) {
+pub fn write(rt: &impl Print, hex: &[u8]) -> io::Result<()> {
     let mut list = [0; 15];
     let mut out = [0; 80];
     let n = list_of(hex, &mut list);
-    write_answer(write_first(&list, n, &mut out));
+    write_answer(rt, write_first(&list, n, &mut out))
 }
 
 /// Writes records to the first n bytes of an output, which has as many.
@@ -33,38 +34,40 @@ fn write_within(records: &[u64], out: &mut [u8], n: usize) -> TourAnswer {
 }
 
 /// Writes records to an output of so many bytes.
-fn room(what: &[u8], records: &[u64], n: usize) {
+fn room(rt: &impl Print, what: &[u8], records: &[u64], n: usize) -> io::Result<()> {
     let mut out = [0; 31];
-    text(b"  ");
-    text(what);
-    text(b", to an output of ");
-    number(n as u64);
-    text(b" bytes: ");
-    write_answer(write_within(records, &mut out, n));
-    text(b"\n");
+    text(rt, b"  ")?;
+    text(rt, what)?;
+    text(rt, b", to an output of ")?;
+    number(rt, n as u64)?;
+    text(rt, b" bytes: ")?;
+    write_answer(rt, write_within(records, &mut out, n))?;
+    text(rt, b"\n")
 }
 
 /// The faults in the writer's order: 101, 114, 108, 109, 110, 115.
-fn each() {
-    text(b"the writer, each fault once\n");
+fn each(rt: &impl Print) -> io::Result<()> {
+    text(rt, b"the writer, each fault once\n")?;
     let clips = pair(3, THREE, 31, THREE);
     let mut out = [0; 30];
-    case(b"Play 5, a handle listed twice");
-    write_answer(tourfile::write_tour(&clips, &[0, 5, 1, 0, 0], &mut out));
-    text(b"\n");
+    case(rt, b"Play 5, a handle listed twice")?;
+    write_answer(rt, tourfile::write_tour(&clips, &[0, 5, 1, 0, 0], &mut out))?;
+    text(rt, b"\n")?;
     table(
+        rt,
         Task::Write,
         b"kind 11: 0 5 b 0 0\n\
           Swap 5 to slot 3 serial 8: 0 5 9 300000008 0\n\
           Play 5, Play 5: 0 5 1 0 0, 0 5 1 0 0\n",
-    );
-    crate::many::one_too_many_written();
-    room(b"Play 5", &[0, 5, 1, 0, 0], 29);
+    )?;
+    crate::many::one_too_many_written(rt)?;
+    room(rt, b"Play 5", &[0, 5, 1, 0, 0], 29)
 }
 
 /// 'Unreadable record, clip not listed, number not rising.'
-fn records() {
+fn records(rt: &impl Print) -> io::Result<()> {
     table(
+        rt,
         Task::Write,
         b"the writer, kinds and gains\n\
           kind 0: 0 5 0 0 0\n\
@@ -94,22 +97,23 @@ fn records() {
           no words:\n\
           4 words, no record: 0 5 b 0\n\
           9 words, Play 5 in front: 0 5 1 0 0, 0 5 b 0\n",
-    );
+    )
 }
 
 /// 'Output too short.'
-fn rooms() {
-    text(b"the writer, outputs\n");
-    room(b"no records", &[], 9);
-    room(b"no records", &[], 10);
-    room(b"Play 5", &[0, 5, 1, 0, 0], 29);
-    room(b"Play 5", &[0, 5, 1, 0, 0], 30);
-    room(b"Play 5", &[0, 5, 1, 0, 0], 31);
+fn rooms(rt: &impl Print) -> io::Result<()> {
+    text(rt, b"the writer, outputs\n")?;
+    room(rt, b"no records", &[], 9)?;
+    room(rt, b"no records", &[], 10)?;
+    room(rt, b"Play 5", &[0, 5, 1, 0, 0], 29)?;
+    room(rt, b"Play 5", &[0, 5, 1, 0, 0], 30)?;
+    room(rt, b"Play 5", &[0, 5, 1, 0, 0], 31)
 }
 
 /// 'By first record, then this order.'
-fn order() {
+fn order(rt: &impl Print) -> io::Result<()> {
     table(
+        rt,
         Task::Write,
         b"the writer, two faults in one list, the first record wins\n\
           Swap 5 to slot 3 serial 8, kind 11 (108 at 0, 114 at 1): 0 5 9 300000008 0, 0 6 b 0 0\n\
@@ -119,43 +123,54 @@ fn order() {
           Stinger 5 of slot 3 serial 8, gain 2^32 (114, 108): 0 5 a 300000008 100000000\n\
           Play 5, kind 11 with number 5 (114, 109): 0 5 1 0 0, 0 5 b 0 0\n\
           Play 5, Swap 5 to slot 3 serial 8 (108, 109): 0 5 1 0 0, 0 5 9 300000008 0\n",
-    );
+    )
 }
 
 /// Writes records to an output of no bytes.
-fn write_none(what: &[u8], clips: &[u64; 32], records: &[u64]) {
+fn write_none(rt: &impl Print, what: &[u8], clips: &[u64; 32], records: &[u64]) -> io::Result<()> {
     let mut out = [0; 0];
-    case(what);
-    write_answer(tourfile::write_tour(clips, records, &mut out));
-    text(b"\n");
+    case(rt, what)?;
+    write_answer(rt, tourfile::write_tour(clips, records, &mut out))?;
+    text(rt, b"\n")
 }
 
-fn first_and_last() {
-    text(b"the writer, a handle listed twice before all else, the output last\n");
+fn first_and_last(rt: &impl Print) -> io::Result<()> {
+    text(
+        rt,
+        b"the writer, a handle listed twice before all else, the output last\n",
+    )?;
     let clips = listed();
     let twice = pair(3, THREE, 31, THREE);
     write_none(
+        rt,
         b"kind 11, a handle listed twice (101, 114)",
         &twice,
         &[0, 5, 11, 0, 0],
-    );
+    )?;
     write_none(
+        rt,
         b"Play 5, a handle listed twice, no output (101, 115)",
         &twice,
         &[0, 5, 1, 0, 0],
-    );
-    write_none(b"kind 11, no output (114, 115)", &clips, &[0, 5, 11, 0, 0]);
+    )?;
     write_none(
+        rt,
+        b"kind 11, no output (114, 115)",
+        &clips,
+        &[0, 5, 11, 0, 0],
+    )?;
+    write_none(
+        rt,
         b"Play 5, Play 5, no output (109, 115)",
         &clips,
         &[0, 5, 1, 0, 0, 0, 5, 1, 0, 0],
-    );
+    )
 }
 
-pub fn all() {
-    each();
-    records();
-    rooms();
-    order();
-    first_and_last();
+pub fn all(rt: &impl Print) -> io::Result<()> {
+    each(rt)?;
+    records(rt)?;
+    rooms(rt)?;
+    order(rt)?;
+    first_and_last(rt)
 }

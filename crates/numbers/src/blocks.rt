@@ -8,6 +8,7 @@ use print::{number, text};
 use ramp::Ramp;
 use session::{Desk, Session};
 use stage::{AS_TONO, Counters, Fade, Playhead, Settings, Sound, Stage, Tail};
+use std::io;
 use timeline::Row;
 use transport::{LoopRange, Transport, TransportState};
 
@@ -176,10 +177,16 @@ fn run(s: Session, queue: &[u64; 20], pool: &[f32], out: &mut [f32]) -> BlockAns
 // ---- the numbers
 
 /// A block whose answer is told, and the session after it.
-fn run_told(s: Session, queue: &[u64; 20], pool: &[f32], out: &mut [f32]) -> Session {
+fn run_told(
+    rt: &impl Print,
+    s: Session,
+    queue: &[u64; 20],
+    pool: &[f32],
+    out: &mut [f32],
+) -> io::Result<Session> {
     let r = run(s, queue, pool, out);
-    stands(r);
-    r.session
+    stands(rt, r)?;
+    Ok(r.session)
 }
 
 /// Play and Pause at 8, for a session at rest.
@@ -190,86 +197,89 @@ fn put_two(queue: &mut [u64; 20]) -> Session {
 }
 
 /// A block of 8 executes one, of 0 none, then of 1 the other first.
-fn eight_none_one(s: Session, queue: &[u64; 20], pool: &[f32]) {
+fn eight_none_one(rt: &impl Print, s: Session, queue: &[u64; 20], pool: &[f32]) -> io::Result<()> {
     let mut eight = [0.0; 16];
     let mut none = [0.0; 0];
     let mut one = [0.0; 2];
-    let first = run_told(s, queue, pool, &mut eight);
-    text(b"  then of 0: ");
-    let second = run_told(first, queue, pool, &mut none);
-    text(b"  then of 1: ");
-    run_told(second, queue, pool, &mut one);
+    let first = run_told(rt, s, queue, pool, &mut eight)?;
+    text(rt, b"  then of 0: ")?;
+    let second = run_told(rt, first, queue, pool, &mut none)?;
+    text(rt, b"  then of 1: ")?;
+    run_told(rt, second, queue, pool, &mut one)?;
+    Ok(())
 }
 
 /// A block of 9 executes both.
-fn nine(s: Session, queue: &[u64; 20], pool: &[f32]) {
+fn nine(rt: &impl Print, s: Session, queue: &[u64; 20], pool: &[f32]) -> io::Result<()> {
     let mut nine = [0.0; 18];
-    text(b"  a block of 9: ");
-    run_told(s, queue, pool, &mut nine);
+    text(rt, b"  a block of 9: ")?;
+    run_told(rt, s, queue, pool, &mut nine)?;
+    Ok(())
 }
 
 /// Two commands at 8, clock 0.
-fn two_at_8(pool: &[f32]) {
+fn two_at_8(rt: &impl Print, pool: &[f32]) -> io::Result<()> {
     let mut queue = [0; 20];
     let s = put_two(&mut queue);
-    text(b"two commands at 8, clock 0\n  a block of 8: ");
-    eight_none_one(s, &queue, pool);
-    nine(s, &queue, pool);
+    text(rt, b"two commands at 8, clock 0\n  a block of 8: ")?;
+    eight_none_one(rt, s, &queue, pool)?;
+    nine(rt, s, &queue, pool)
 }
 
 /// Song (0.5, -0.5), (0.25, 0.25), length 2, Play at 0, block of 4: those pairs, four zeros; position 2, Stopped.
-fn two_frames(pool: &[f32]) {
+fn two_frames(rt: &impl Print, pool: &[f32]) -> io::Result<()> {
     let mut queue = [0; 20];
     timeline::put_row(&mut queue, 0, row(0, 1, PLAY, 0));
     let s = session(SHORT, TransportState::Stopped, LoopRange::Off, 1.0, 1);
     let mut out = [0.0; 8];
-    text(b"a song of two frames, Play at 0, a block of 4\n  ");
-    run_told(s, &queue, pool, &mut out);
-    text(b" ");
-    samples(&out, 0, 8);
-    text(b"\n");
+    text(rt, b"a song of two frames, Play at 0, a block of 4\n  ")?;
+    run_told(rt, s, &queue, pool, &mut out)?;
+    text(rt, b" ")?;
+    samples(rt, &out, 0, 8)?;
+    text(rt, b"\n")
 }
 
 /// Gain 0 at rest: the first frame 255/256, so 0.5 sounds as 0.498046875.
-fn gain_zero(pool: &[f32]) {
+fn gain_zero(rt: &impl Print, pool: &[f32]) -> io::Result<()> {
     let mut queue = [0; 20];
     timeline::put_row(&mut queue, 0, row(0, 1, GAIN, 0));
     let s = session(LONG, TransportState::Playing, LoopRange::Off, 1.0, 1);
     let mut out = [0.0; 2];
-    text(b"Gain 0 at rest, 0.5 sounds as\n ");
+    text(rt, b"Gain 0 at rest, 0.5 sounds as\n ")?;
     run(s, &queue, pool, &mut out);
-    samples(&out, 0, 2);
-    text(b"\n");
+    samples(rt, &out, 0, 2)?;
+    text(rt, b"\n")
 }
 
 /// A loop that wraps inside a block.
-fn loop_wraps(pool: &[f32]) {
+fn loop_wraps(rt: &impl Print, pool: &[f32]) -> io::Result<()> {
     let queue = [0; 20];
     let looped = LoopRange::Range(SongFrame(2), SongFrame(4));
     let s = session(LONG, TransportState::Playing, looped, 1.0, 0);
     let mut out = [0.0; 14];
-    text(b"loop 2..4 from 0, a block of 7\n  ");
-    run_told(s, &queue, pool, &mut out);
-    text(b" ");
-    samples(&out, 0, 14);
-    text(b"\n");
+    text(rt, b"loop 2..4 from 0, a block of 7\n  ")?;
+    run_told(rt, s, &queue, pool, &mut out)?;
+    text(rt, b" ")?;
+    samples(rt, &out, 0, 14)?;
+    text(rt, b"\n")
 }
 
 /// A swap, the master at 0, which the tail ignores as tono: its first frame at 1023/1024, its last but one at 1/1024, its last at 0.
-fn swap_tail(pool: &[f32]) {
+fn swap_tail(rt: &impl Print, pool: &[f32]) -> io::Result<()> {
     let mut queue = [0; 20];
     timeline::put_row(&mut queue, 0, row(0, 1, SWAP, 1));
     let s = session(LONG, TransportState::Playing, LoopRange::Off, 0.0, 1);
     let mut out = [0.0; 2050];
     text(
+        rt,
         b"a swap with the master at 0, a block of 1,025: the tail's frames 1, 1,023, 1,024 and the one after\n  ",
-    );
-    run_told(s, &queue, pool, &mut out);
-    text(b" ");
-    samples(&out, 0, 2);
-    text(b"\n ");
-    samples(&out, 2044, 2050);
-    text(b"\n");
+    )?;
+    run_told(rt, s, &queue, pool, &mut out)?;
+    text(rt, b" ")?;
+    samples(rt, &out, 0, 2)?;
+    text(rt, b"\n ")?;
+    samples(rt, &out, 2044, 2050)?;
+    text(rt, b"\n")
 }
 
 /// Sixteen voices, the k-th with k frames gone.
@@ -290,21 +300,21 @@ fn sixteen() -> Voices {
 }
 
 /// A block of one frame with nothing queued: its left sample, and how many voices are left.
-fn one_frame(s: Session, pool: &[f32]) -> Session {
+fn one_frame(rt: &impl Print, s: Session, pool: &[f32]) -> io::Result<Session> {
     let queue = [0; 20];
     let mut out = [0.0; 2];
     let next = run(s, &queue, pool, &mut out).session;
-    text(b" ");
-    samples(&out, 0, 1);
+    text(rt, b" ")?;
+    samples(rt, &out, 0, 1)?;
     let stage = next.stage;
-    text(b" ");
-    number(stage.sound.voices.count as u64);
-    text(b"\n");
-    next
+    text(rt, b" ")?;
+    number(rt, stage.sound.voices.count as u64)?;
+    text(rt, b"\n")?;
+    Ok(next)
 }
 
 /// Sixteen voices that end on different frames: one leaves after each.
-fn voices_end(pool: &[f32]) {
+fn voices_end(rt: &impl Print, pool: &[f32]) -> io::Result<()> {
     let mut s = sounding(
         LONG,
         TransportState::Stopped,
@@ -314,21 +324,23 @@ fn voices_end(pool: &[f32]) {
         0,
     );
     text(
+        rt,
         b"sixteen voices of 0.0625 that end on different frames: the sum, and how many are left\n",
-    );
+    )?;
     let mut i: u32 = 0;
     while i < 17 {
-        s = one_frame(s, pool);
+        s = one_frame(rt, s, pool)?;
         i += 1;
     }
+    Ok(())
 }
 
-pub fn all() {
+pub fn all(rt: &impl Print) -> io::Result<()> {
     let pool = pool();
-    two_at_8(&pool);
-    two_frames(&pool);
-    gain_zero(&pool);
-    loop_wraps(&pool);
-    swap_tail(&pool);
-    voices_end(&pool);
+    two_at_8(rt, &pool)?;
+    two_frames(rt, &pool)?;
+    gain_zero(rt, &pool)?;
+    loop_wraps(rt, &pool)?;
+    swap_tail(rt, &pool)?;
+    voices_end(rt, &pool)
 }

@@ -6,21 +6,28 @@ use clips::LoadAnswered;
 use counts::SongFrame;
 use print::text;
 use session::Session;
+use std::io;
 use timeline::Submission;
 use transport::At;
 
 /// A loop from 1 to 3 that waits in the queue, then a block of 6, and the loop after it.
-fn told(s: Session, queue: &mut [u64; 10], capture: &mut [u64; 5], pool: &[f32; 16]) {
+fn told(
+    rt: &impl Print,
+    s: Session,
+    queue: &mut [u64; 10],
+    capture: &mut [u64; 5],
+    pool: &[f32; 16],
+) -> io::Result<()> {
     let mut out = [0.0; 12];
     let queued = submission::submit(s, queue, capture, looped(1, 3), At::Immediate);
     let a = queued.answer;
-    print::submit_answer(a);
-    text(b"\n    a block of 6: ");
+    print::submit_answer(rt, a)?;
+    text(rt, b"\n    a block of 6: ")?;
     let r = block::block(queued.session, queue, capture, pool, &mut out);
     let after = r.session;
-    range(after.loop_range());
-    text(b", ");
-    crate::told::stands(r);
+    range(rt, after.loop_range())?;
+    text(rt, b", ")?;
+    crate::told::stands(rt, r)
 }
 
 /// A load of a song of 4 frames.
@@ -36,7 +43,7 @@ fn load_longer(
 }
 
 /// In the song of 2 frames that plays nothing is set; after a swap to a longer one the loop is.
-pub fn past_the_length() {
+pub fn past_the_length(rt: &impl Print) -> io::Result<()> {
     let mut queue = [0; 10];
     let mut capture = [0; 5];
     let mut pool = [0.0; 16];
@@ -45,9 +52,9 @@ pub fn past_the_length() {
     let a = r.answer;
     let longer = handle_of(a);
     let s = r.session;
-    text(b"a loop from 1 to 3\n  in a song of length 2: ");
-    told(s, &mut queue, &mut capture, &pool);
+    text(rt, b"a loop from 1 to 3\n  in a song of length 2: ")?;
+    told(rt, s, &mut queue, &mut capture, &pool)?;
     let swapped = queue_one(s, &mut queue, &mut capture, Submission::Swap(longer));
-    text(b"  after a swap to one of length 4: ");
-    told(swapped, &mut queue, &mut capture, &pool);
+    text(rt, b"  after a swap to one of length 4: ")?;
+    told(rt, swapped, &mut queue, &mut capture, &pool)
 }

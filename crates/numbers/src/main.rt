@@ -12,13 +12,15 @@ mod same;
 mod story;
 mod told;
 
-fn main() {
-    blocks::all();
-    refusals::all();
-    loops::past_the_length();
-    laps::all();
-    modes::all();
-    playhead::all();
-    story::replaced();
-    many::queue_full();
+use std::io;
+
+fn main(rt: HostRuntime) -> io::Result<()> {
+    blocks::all(&rt)?;
+    refusals::all(&rt)?;
+    loops::past_the_length(&rt)?;
+    laps::all(&rt)?;
+    modes::all(&rt)?;
+    playhead::all(&rt)?;
+    story::replaced(&rt)?;
+    many::queue_full(&rt)
 }

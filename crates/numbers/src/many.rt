@@ -4,6 +4,7 @@ use counts::ClockFrame;
 use print::{number, text};
 use session::Session;
 use stage::{AS_TONO, Settings};
+use std::io;
 use timeline::Submission;
 use transport::At;
 
@@ -31,15 +32,15 @@ fn fill(s: Session, queue: &mut [u64; 20480], capture: &mut [u64; 5], times: u64
 }
 
 /// A submission to the full queue.
-fn one_more(s: Session, queue: [u64; 20480], capture: [u64; 5]) {
+fn one_more(rt: &impl Print, s: Session, queue: [u64; 20480], capture: [u64; 5]) -> io::Result<()> {
     let mut lent = queue;
     let mut also = capture;
     let r = submission::submit(s, &mut lent, &mut also, Submission::Play, At::Immediate);
-    full_told(s, r, &lent, &queue, &also, &capture);
+    full_told(rt, s, r, &lent, &queue, &also, &capture)
 }
 
 /// '4,096 queued are accepted; the next gets 15.'
-pub fn queue_full() {
+pub fn queue_full(rt: &impl Print) -> io::Result<()> {
     let settings = Settings {
         rate: 48000,
         mode: AS_TONO,
@@ -52,13 +53,13 @@ pub fn queue_full() {
     let mut pool = [0.0; 16];
     let s = opened(settings, &queue, &capture, &mut pool);
     let full = fill(s, &mut queue, &mut capture, 4096);
-    text(b"a queue of 4,096\n  4,096 submitted: queued ");
-    number(full.queue_depth() as u64);
-    text(b", last number ");
+    text(rt, b"a queue of 4,096\n  4,096 submitted: queued ")?;
+    number(rt, full.queue_depth() as u64)?;
+    text(rt, b", last number ")?;
     let d = full.desk;
-    number(d.number);
-    text(b", dropped ");
-    number(d.dropped);
-    text(b"\n  the next: ");
-    one_more(full, queue, capture);
+    number(rt, d.number)?;
+    text(rt, b", dropped ")?;
+    number(rt, d.dropped)?;
+    text(rt, b"\n  the next: ")?;
+    one_more(rt, full, queue, capture)
 }

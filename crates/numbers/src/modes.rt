@@ -7,6 +7,7 @@ use counts::{Handle, SongFrame};
 use print::{bits, number, text};
 use session::Session;
 use stage::{AS_TONO, HOUSE};
+use std::io;
 use timeline::Submission;
 use transport::{LoopRange, TransportState};
 
@@ -93,65 +94,72 @@ fn swap_down(mode: u32, out: &mut [f32; 6]) {
 // ---- the numbers
 
 /// The left samples of 3 frames.
-fn left(out: &[f32; 6]) {
-    samples(out, 0, 1);
-    samples(out, 2, 3);
-    samples(out, 4, 5);
-    text(b"\n");
+fn left(rt: &impl Print, out: &[f32; 6]) -> io::Result<()> {
+    samples(rt, out, 0, 1)?;
+    samples(rt, out, 2, 3)?;
+    samples(rt, out, 4, 5)?;
+    text(rt, b"\n")
 }
 
 /// As tono 1023, 1022 and 1021 1024ths; in house mode a quarter of each.
-fn low(mode: u32) {
+fn low(rt: &impl Print, mode: u32) -> io::Result<()> {
     let mut out = [0.0; 6];
     swap(mode, 1.0, 0.25, &mut out);
-    left(&out);
+    left(rt, &out)
 }
 
 /// The same as tono; in house mode 255, 254 and 253 256ths of each.
-fn falling(mode: u32) {
+fn falling(rt: &impl Print, mode: u32) -> io::Result<()> {
     let mut out = [0.0; 6];
     swap_down(mode, &mut out);
-    left(&out);
+    left(rt, &out)
 }
 
 /// Two samples, to the bit.
-fn to_the_bit(a: f32, b: f32) {
-    number(bits(a));
-    text(b" ");
-    number(bits(b));
-    text(b"\n");
+fn to_the_bit(rt: &impl Print, a: f32, b: f32) -> io::Result<()> {
+    number(rt, bits(a))?;
+    text(rt, b" ")?;
+    number(rt, bits(b))?;
+    text(rt, b"\n")
 }
 
 /// The left samples of a tail's first 2 frames. The second is made by itself, since the song of silence ends in it.
-fn two(mode: u32, sample: f32, gain: f32) {
+fn two(rt: &impl Print, mode: u32, sample: f32, gain: f32) -> io::Result<()> {
     let mut out = [0.0; 6];
     swap(mode, sample, gain, &mut out);
-    to_the_bit(out[0], out[2]);
+    to_the_bit(rt, out[0], out[2])
 }
 
 /// 'House multiplies the tail by g before w': at 0.88 and 0.3 the other order rounds to other numbers.
-fn order() {
-    text(b"  a tail of 0.88, the master at rest at 0.3, frames 1 and 2 as bits\n    as tono: ");
-    two(AS_TONO, 0.88, 0.3);
-    text(b"    in house mode: ");
-    two(HOUSE, 0.88, 0.3);
-    text(b"    0.88 by 0.3, then by the weight: ");
-    to_the_bit((0.88 * 0.3) * FIRST, (0.88 * 0.3) * SECOND);
-    text(b"    0.88 by the weight, then by 0.3: ");
-    to_the_bit((0.88 * FIRST) * 0.3, (0.88 * SECOND) * 0.3);
+fn order(rt: &impl Print) -> io::Result<()> {
+    text(
+        rt,
+        b"  a tail of 0.88, the master at rest at 0.3, frames 1 and 2 as bits\n    as tono: ",
+    )?;
+    two(rt, AS_TONO, 0.88, 0.3)?;
+    text(rt, b"    in house mode: ")?;
+    two(rt, HOUSE, 0.88, 0.3)?;
+    text(rt, b"    0.88 by 0.3, then by the weight: ")?;
+    to_the_bit(rt, (0.88 * 0.3) * FIRST, (0.88 * 0.3) * SECOND)?;
+    text(rt, b"    0.88 by the weight, then by 0.3: ")?;
+    to_the_bit(rt, (0.88 * FIRST) * 0.3, (0.88 * SECOND) * 0.3)
 }
 
-pub fn all() {
-    text(b"the tail of a swap to silence, in each mode\n");
-    text(b"  a tail of 1.0, the master at rest at 0.25, frames 1 to 3\n    as tono:");
-    low(AS_TONO);
-    text(b"    in house mode:");
-    low(HOUSE);
+pub fn all(rt: &impl Print) -> io::Result<()> {
+    text(rt, b"the tail of a swap to silence, in each mode\n")?;
     text(
+        rt,
+        b"  a tail of 1.0, the master at rest at 0.25, frames 1 to 3\n    as tono:",
+    )?;
+    low(rt, AS_TONO)?;
+    text(rt, b"    in house mode:")?;
+    low(rt, HOUSE)?;
+    text(
+        rt,
         b"  a tail of 1.0, the master at 1.0, with the swap a gain of 0.0, frames 1 to 3\n    as tono:",
-    );
-    falling(AS_TONO);
-    text(b"    in house mode:");
-    falling(HOUSE);
-    order();
+    )?;
+    falling(rt, AS_TONO)?;
+    text(rt, b"    in house mode:")?;
+    falling(rt, HOUSE)?;
+    order(rt)
 }

@@ -6,6 +6,7 @@ use counts::SongFrame;
 use print::{number, text, whole};
 use session::Session;
 use stage::{AS_TONO, HOUSE};
+use std::io;
 use timeline::Submission;
 
 // ---- the songs
@@ -68,38 +69,50 @@ fn block(
 }
 
 /// A block of 1: the frame of the song that sounds, then the position.
-fn frame(s: Session, queue: &[u64; 10], capture: &[u64; 5], pool: &[f32; 64]) -> Session {
+fn frame(
+    rt: &impl Print,
+    s: Session,
+    queue: &[u64; 10],
+    capture: &[u64; 5],
+    pool: &[f32; 64],
+) -> io::Result<Session> {
     let mut out = [0.0; 2];
     let after = block(s, queue, capture, pool, &mut out);
-    text(b" ");
-    number(whole(out[0] * 64.0));
-    text(b" then ");
-    number(after.position().0);
-    after
+    text(rt, b" ")?;
+    number(rt, whole(out[0] * 64.0))?;
+    text(rt, b" then ")?;
+    number(rt, after.position().0)?;
+    Ok(after)
 }
 
 /// One more.
-fn next(s: Session, queue: &[u64; 10], capture: &[u64; 5], pool: &[f32; 64]) -> Session {
-    text(b",");
-    frame(s, queue, capture, pool)
+fn next(
+    rt: &impl Print,
+    s: Session,
+    queue: &[u64; 10],
+    capture: &[u64; 5],
+    pool: &[f32; 64],
+) -> io::Result<Session> {
+    text(rt, b",")?;
+    frame(rt, s, queue, capture, pool)
 }
 
 /// Rule a takes 27 to 11, and 40, held at the length of 32, to 12: as tono frame 10 sounds there, in house mode 11 or 12.
-fn wrapped(mode: u32, to: u64) {
+fn wrapped(rt: &impl Print, mode: u32, to: u64) -> io::Result<()> {
     let mut queue = [0; 10];
     let mut capture = [0; 5];
     let mut pool = [0.0; 64];
     let s = sought(mode, to, &mut queue, &mut capture, &mut pool);
-    let one = frame(s, &queue, &capture, &pool);
-    let two = next(one, &queue, &capture, &pool);
-    let three = next(two, &queue, &capture, &pool);
-    let four = next(three, &queue, &capture, &pool);
-    next(four, &queue, &capture, &pool);
-    text(b"\n");
+    let one = frame(rt, s, &queue, &capture, &pool)?;
+    let two = next(rt, one, &queue, &capture, &pool)?;
+    let three = next(rt, two, &queue, &capture, &pool)?;
+    let four = next(rt, three, &queue, &capture, &pool)?;
+    next(rt, four, &queue, &capture, &pool)?;
+    text(rt, b"\n")
 }
 
 /// Where the clip has ended the playhead goes on, in silence.
-fn short(mode: u32) {
+fn short(rt: &impl Print, mode: u32) -> io::Result<()> {
     let queue = [0; 10];
     let capture = [0; 5];
     let mut pool = [0.0; 64];
@@ -107,27 +120,35 @@ fn short(mode: u32) {
     let song = [0.25; 8];
     let s = playing(mode, &queue, &capture, &mut pool, &song, 10);
     let after = block(s, &queue, &capture, &pool, &mut out);
-    samples(&out, 6, 12);
-    position(after);
-    text(b"\n");
+    samples(rt, &out, 6, 12)?;
+    position(rt, after)?;
+    text(rt, b"\n")
 }
 
-pub fn all() {
-    text(b"the playhead and the sound after a wrap, in each mode\n");
+pub fn all(rt: &impl Print) -> io::Result<()> {
     text(
+        rt,
+        b"the playhead and the sound after a wrap, in each mode\n",
+    )?;
+    text(
+        rt,
         b"  a song of 32 frames, loop 10..14, a seek to 27, five blocks of 1: the frame that sounds, then the position\n    as tono:",
-    );
-    wrapped(AS_TONO, 27);
-    text(b"    in house mode:");
-    wrapped(HOUSE, 27);
-    text(b"  the same with a seek to 40, past the length\n    as tono:");
-    wrapped(AS_TONO, 40);
-    text(b"    in house mode:");
-    wrapped(HOUSE, 40);
+    )?;
+    wrapped(rt, AS_TONO, 27)?;
+    text(rt, b"    in house mode:")?;
+    wrapped(rt, HOUSE, 27)?;
     text(
+        rt,
+        b"  the same with a seek to 40, past the length\n    as tono:",
+    )?;
+    wrapped(rt, AS_TONO, 40)?;
+    text(rt, b"    in house mode:")?;
+    wrapped(rt, HOUSE, 40)?;
+    text(
+        rt,
         b"  a clip of 4 frames of 0.25, its length 10, a block of 6: its frames 4 to 6, and the position\n    as tono:",
-    );
-    short(AS_TONO);
-    text(b"    in house mode:");
-    short(HOUSE);
+    )?;
+    short(rt, AS_TONO)?;
+    text(rt, b"    in house mode:")?;
+    short(rt, HOUSE)
 }

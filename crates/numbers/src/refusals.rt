@@ -7,6 +7,7 @@ use counts::{ClockFrame, Handle, SongFrame};
 use print::text;
 use session::{Answered, Session};
 use stage::{AS_TONO, HOUSE, Settings};
+use std::io;
 use submission::SubmitAnswered;
 use timeline::{Row, Submission};
 use transport::{At, LoopRange, TransportState};
@@ -47,133 +48,184 @@ pub fn handle_of(a: LoadAnswer) -> Handle {
 // ---- what a refused call is told by
 
 /// An opening with the pool of 8 frames: its answer, and whether the pool is as it was.
-fn open(settings: Settings, queue: &[u64], samples: &[f32]) {
+fn open(rt: &impl Print, settings: Settings, queue: &[u64], samples: &[f32]) -> io::Result<()> {
     let capture = [0; 5];
     let pool = [0.0; 16];
     let mut lent = pool;
     let lasts = SongFrame(2);
     let r = clips::open(settings, queue, &capture, &mut lent, samples, RATE, lasts);
     let a = r.answer;
-    print::load_answer(a);
-    crate::told::kept(crate::same::samples(&lent, &pool));
+    print::load_answer(rt, a)?;
+    crate::told::kept(rt, crate::same::samples(&lent, &pool))
 }
 
 /// A load: its answer, and whether session and pool are as they were.
-fn load_told(s: Session, r: LoadAnswered, pool: &[f32], was: &[f32]) {
+fn load_told(
+    rt: &impl Print,
+    s: Session,
+    r: LoadAnswered,
+    pool: &[f32],
+    was: &[f32],
+) -> io::Result<()> {
     let a = r.answer;
     let after = r.session;
-    print::load_answer(a);
-    crate::told::kept(crate::same::session(s, after) & crate::same::samples(pool, was));
+    print::load_answer(rt, a)?;
+    crate::told::kept(
+        rt,
+        crate::same::session(s, after) & crate::same::samples(pool, was),
+    )
 }
 
 /// A load into the pool of 8 frames.
-fn load(s: Session, queue: &[u64], capture: &[u64], pool: [f32; 16], samples: &[f32], rate: u32) {
+fn load(
+    rt: &impl Print,
+    s: Session,
+    queue: &[u64],
+    capture: &[u64],
+    pool: [f32; 16],
+    samples: &[f32],
+    rate: u32,
+) -> io::Result<()> {
     let mut lent = pool;
     let r = clips::load(s, queue, capture, &mut lent, samples, Kind::Stinger, rate);
-    load_told(s, r, &lent, &pool);
+    load_told(rt, s, r, &lent, &pool)
 }
 
 /// A load into a pool of 40 frames.
-fn load_forty(s: Session, queue: &[u64], capture: &[u64], pool: [f32; 80]) {
+fn load_forty(
+    rt: &impl Print,
+    s: Session,
+    queue: &[u64],
+    capture: &[u64],
+    pool: [f32; 80],
+) -> io::Result<()> {
     let mut lent = pool;
     let click = [0.25, 0.25];
     let r = clips::load(s, queue, capture, &mut lent, &click, Kind::Stinger, RATE);
-    load_told(s, r, &lent, &pool);
+    load_told(rt, s, r, &lent, &pool)
 }
 
 /// A call that is lent no store to write: its answer, and whether the session is as it was.
-fn answer_told(s: Session, r: Answered) {
+fn answer_told(rt: &impl Print, s: Session, r: Answered) -> io::Result<()> {
     let a = r.answer;
     let after = r.session;
-    print::answer(a);
-    crate::told::kept(crate::same::session(s, after));
+    print::answer(rt, a)?;
+    crate::told::kept(rt, crate::same::session(s, after))
 }
 
 /// A block: its answer, and whether session and output are as they were.
-fn block_told(s: Session, r: BlockAnswered, out: &[f32], was: &[f32]) {
+fn block_told(
+    rt: &impl Print,
+    s: Session,
+    r: BlockAnswered,
+    out: &[f32],
+    was: &[f32],
+) -> io::Result<()> {
     let a = r.answer;
     let after = r.session;
-    crate::told::block_answer(a);
-    crate::told::kept(crate::same::session(s, after) & crate::same::samples(out, was));
+    crate::told::block_answer(rt, a)?;
+    crate::told::kept(
+        rt,
+        crate::same::session(s, after) & crate::same::samples(out, was),
+    )
 }
 
 /// A submission: its answer, and whether session, queue and capture are as they were.
 fn submit_told(
+    rt: &impl Print,
     s: Session,
     r: SubmitAnswered,
     queue: &[u64],
     queue_was: &[u64],
     capture: &[u64],
     capture_was: &[u64],
-) {
+) -> io::Result<()> {
     let a = r.answer;
     let after = r.session;
-    print::submit_answer(a);
+    print::submit_answer(rt, a)?;
     crate::told::kept(
+        rt,
         crate::same::session(s, after)
             & crate::same::words(queue, queue_was)
             & crate::same::words(capture, capture_was),
-    );
+    )
 }
 
 /// A submission at once to the queue of 2.
-fn submit(s: Session, queue: [u64; 10], capture: [u64; 5], x: Submission) {
+fn submit(
+    rt: &impl Print,
+    s: Session,
+    queue: [u64; 10],
+    capture: [u64; 5],
+    x: Submission,
+) -> io::Result<()> {
     let mut lent = queue;
     let mut also = capture;
     let r = submission::submit(s, &mut lent, &mut also, x, At::Immediate);
-    submit_told(s, r, &lent, &queue, &also, &capture);
+    submit_told(rt, s, r, &lent, &queue, &also, &capture)
 }
 
 /// A submission at once to a queue of 17.
-fn submit_seventeen(s: Session, queue: [u64; 85], capture: [u64; 5], x: Submission) {
+fn submit_seventeen(
+    rt: &impl Print,
+    s: Session,
+    queue: [u64; 85],
+    capture: [u64; 5],
+    x: Submission,
+) -> io::Result<()> {
     let mut lent = queue;
     let mut also = capture;
     let r = submission::submit(s, &mut lent, &mut also, x, At::Immediate);
-    submit_told(s, r, &lent, &queue, &also, &capture);
+    submit_told(rt, s, r, &lent, &queue, &also, &capture)
 }
 
 /// A submission that finds the queue full: '15: queue full; dropped count + 1'.
 pub fn full_told(
+    rt: &impl Print,
     s: Session,
     r: SubmitAnswered,
     queue: &[u64],
     queue_was: &[u64],
     capture: &[u64],
     capture_was: &[u64],
-) {
+) -> io::Result<()> {
     let a = r.answer;
     let after = r.session;
-    print::submit_answer(a);
-    text(b", dropped ");
+    print::submit_answer(rt, a)?;
+    text(rt, b", dropped ")?;
     let d = after.desk;
-    print::number(d.dropped);
-    text(b", but for that");
+    print::number(rt, d.dropped)?;
+    text(rt, b", but for that")?;
     crate::told::kept(
+        rt,
         crate::same::session_but_dropped(s, after)
             & crate::same::words(queue, queue_was)
             & crate::same::words(capture, capture_was),
-    );
+    )
 }
 
 // ---- the numbers
 
 /// '1: session or its stores not well formed.'
-fn stores() {
+fn stores(rt: &impl Print) -> io::Result<()> {
     let queue = [0; 10];
     let short = [0; 5];
     let capture = [0; 5];
     let mut pool = [0.0; 16];
     let s = opened(SMALL, &queue, &capture, &mut pool);
-    text(b"  metrics, lent a queue of 1 record where 2 are named: ");
+    text(
+        rt,
+        b"  metrics, lent a queue of 1 record where 2 are named: ",
+    )?;
     let r = control::metrics(s, &short, &capture);
     let a = r.answer;
     let after = r.session;
-    print::metrics_answer(a);
-    crate::told::kept(crate::same::session(s, after));
+    print::metrics_answer(rt, a)?;
+    crate::told::kept(rt, crate::same::session(s, after))
 }
 
 /// The same of a session whose mode is set to an unknown one by hand, in every call.
-fn altered() {
+fn altered(rt: &impl Print) -> io::Result<()> {
     let queue = [0; 10];
     let capture = [0; 5];
     let mut pool = [0.0; 16];
@@ -181,40 +233,40 @@ fn altered() {
     s.settings = small(2);
     let mut out = [0.5; 2];
     let was = out;
-    text(b"  a block of 1 in mode 2, set by hand: ");
+    text(rt, b"  a block of 1 in mode 2, set by hand: ")?;
     let r = block::block(s, &queue, &capture, &pool, &mut out);
-    block_told(s, r, &out, &was);
-    text(b"  a command in it: ");
-    submit(s, queue, capture, Submission::Play);
+    block_told(rt, s, r, &out, &was)?;
+    text(rt, b"  a command in it: ")?;
+    submit(rt, s, queue, capture, Submission::Play)
 }
 
 /// '2: lent pool has another length.'
-fn pools() {
+fn pools(rt: &impl Print) -> io::Result<()> {
     let queue = [0; 10];
     let capture = [0; 5];
     let mut pool = [0.0; 16];
     let s = opened(SMALL, &queue, &capture, &mut pool);
-    text(b"  load, lent a pool of 7 frames where 8 are named: ");
+    text(rt, b"  load, lent a pool of 7 frames where 8 are named: ")?;
     let mut other = [0.0; 14];
     let was = other;
     let click = [0.25, 0.25];
     let l = clips::load(s, &queue, &capture, &mut other, &click, Kind::Stinger, RATE);
-    load_told(s, l, &other, &was);
+    load_told(rt, s, l, &other, &was)
 }
 
 /// '3: odd sample count.'
-fn odd() {
+fn odd(rt: &impl Print) -> io::Result<()> {
     let queue = [0; 10];
     let capture = [0; 5];
     let mut pool = [0.0; 16];
     let s = opened(SMALL, &queue, &capture, &mut pool);
     let odd = [0.25; 3];
-    text(b"  load of 3 samples: ");
-    load(s, &queue, &capture, pool, &odd, RATE);
+    text(rt, b"  load of 3 samples: ")?;
+    load(rt, s, &queue, &capture, pool, &odd, RATE)
 }
 
 /// '4: block would pass clock 2^62.'
-fn clock() {
+fn clock(rt: &impl Print) -> io::Result<()> {
     let queue = [0; 10];
     let capture = [0; 5];
     let mut pool = [0.0; 16];
@@ -225,13 +277,13 @@ fn clock() {
     s.stage = stage;
     let mut out = [0.5; 2];
     let was = out;
-    text(b"  a block of 1 at clock 2^62: ");
+    text(rt, b"  a block of 1 at clock 2^62: ")?;
     let r = block::block(s, &queue, &capture, &pool, &mut out);
-    block_told(s, r, &out, &was);
+    block_told(rt, s, r, &out, &was)
 }
 
 /// '5: clip without samples.' '6: sample not finite or above 16.' '7: clip rate (8,000 to 192,000) outside its range.'
-fn samples() {
+fn samples(rt: &impl Print) -> io::Result<()> {
     let queue = [0; 10];
     let capture = [0; 5];
     let mut pool = [0.0; 16];
@@ -239,26 +291,29 @@ fn samples() {
     let none = [0.0; 0];
     let loud = [0.25, 17.0];
     let click = [0.25, 0.25];
-    text(b"  load of no samples: ");
-    load(s, &queue, &capture, pool, &none, RATE);
-    text(b"  load of a sample of 17: ");
-    load(s, &queue, &capture, pool, &loud, RATE);
-    text(b"  load at a rate of 7,999: ");
-    load(s, &queue, &capture, pool, &click, 7999);
+    text(rt, b"  load of no samples: ")?;
+    load(rt, s, &queue, &capture, pool, &none, RATE)?;
+    text(rt, b"  load of a sample of 17: ")?;
+    load(rt, s, &queue, &capture, pool, &loud, RATE)?;
+    text(rt, b"  load at a rate of 7,999: ")?;
+    load(rt, s, &queue, &capture, pool, &click, 7999)
 }
 
 /// 'An unknown mode joins 7', which opening weighs first: before 1 and 3.
-fn modes() {
+fn modes(rt: &impl Print) -> io::Result<()> {
     let queue = [0; 10];
     let short = [0; 5];
     let song = [0.25; 4];
     let odd = [0.25; 3];
-    text(b"  open in mode 2: ");
-    open(small(2), &queue, &song);
-    text(b"  open in mode 2 with 3 samples, lent a queue of 1 record where 2 are named: ");
-    open(small(2), &short, &odd);
-    text(b"  the same in mode 1: ");
-    open(small(HOUSE), &short, &odd);
+    text(rt, b"  open in mode 2: ")?;
+    open(rt, small(2), &queue, &song)?;
+    text(
+        rt,
+        b"  open in mode 2 with 3 samples, lent a queue of 1 record where 2 are named: ",
+    )?;
+    open(rt, small(2), &short, &odd)?;
+    text(rt, b"  the same in mode 1: ")?;
+    open(rt, small(HOUSE), &short, &odd)
 }
 
 /// A load of one frame.
@@ -286,7 +341,7 @@ fn load_more(
 }
 
 /// '8: 32 slots used.' The pool has 40 frames.
-fn slots() {
+fn slots(rt: &impl Print) -> io::Result<()> {
     let settings = Settings {
         rate: RATE,
         mode: AS_TONO,
@@ -299,12 +354,12 @@ fn slots() {
     let mut pool = [0.0; 80];
     let first = opened(settings, &queue, &capture, &mut pool);
     let s = load_more(first, &queue, &capture, &mut pool, 31);
-    text(b"  load when 32 slots are used: ");
-    load_forty(s, &queue, &capture, pool);
+    text(rt, b"  load when 32 slots are used: ")?;
+    load_forty(rt, s, &queue, &capture, pool)
 }
 
 /// '9: serials spent.'
-fn serials() {
+fn serials(rt: &impl Print) -> io::Result<()> {
     let queue = [0; 10];
     let capture = [0; 5];
     let mut pool = [0.0; 16];
@@ -313,19 +368,19 @@ fn serials() {
     bank.last = 4294967295;
     s.bank = bank;
     let click = [0.25, 0.25];
-    text(b"  load when serial 4,294,967,295 is given: ");
-    load(s, &queue, &capture, pool, &click, RATE);
+    text(rt, b"  load when serial 4,294,967,295 is given: ")?;
+    load(rt, s, &queue, &capture, pool, &click, RATE)
 }
 
 /// '10: no start in the pool fits.'
-fn room() {
+fn room(rt: &impl Print) -> io::Result<()> {
     let queue = [0; 10];
     let capture = [0; 5];
     let mut pool = [0.0; 16];
     let s = opened(SMALL, &queue, &capture, &mut pool);
     let long = [0.25; 14];
-    text(b"  load of 7 frames where 6 are free: ");
-    load(s, &queue, &capture, pool, &long, RATE);
+    text(rt, b"  load of 7 frames where 6 are free: ")?;
+    load(rt, s, &queue, &capture, pool, &long, RATE)
 }
 
 /// A load of a song of 44,100.
@@ -346,7 +401,7 @@ pub fn looped(start: u64, end: u64) -> Submission {
 
 /// '11: stale handle.' '12: song where a stinger is due, or the reverse.' '13: clip rate is not the session's.'
 /// '14: gain not finite; stinger gain above 16.' '22, senseless loop.'
-fn handles() {
+fn handles(rt: &impl Print) -> io::Result<()> {
     let queue = [0; 10];
     let capture = [0; 5];
     let mut pool = [0.0; 16];
@@ -355,27 +410,34 @@ fn handles() {
     let r = load_slow(first, &queue, &capture, &mut pool);
     let a = r.answer;
     let other = handle_of(a);
-    handles_told(r.session, queue, capture, song, other);
+    handles_told(rt, r.session, queue, capture, song, other)
 }
 
-fn handles_told(s: Session, queue: [u64; 10], capture: [u64; 5], song: Handle, other: Handle) {
+fn handles_told(
+    rt: &impl Print,
+    s: Session,
+    queue: [u64; 10],
+    capture: [u64; 5],
+    song: Handle,
+    other: Handle,
+) -> io::Result<()> {
     let unknown = Handle { slot: 0, serial: 7 };
-    text(b"  a swap to slot 0 serial 7, which was never given: ");
-    submit(s, queue, capture, Submission::Swap(unknown));
-    text(b"  a stinger of a song: ");
-    submit(s, queue, capture, Submission::Stinger(song, 1.0));
-    text(b"  a swap to a song of 44,100: ");
-    submit(s, queue, capture, Submission::Swap(other));
-    text(b"  a stinger at gain 17: ");
-    submit(s, queue, capture, Submission::Stinger(song, 17.0));
-    text(b"  a loop from 5 to 5: ");
-    submit(s, queue, capture, looped(5, 5));
-    text(b"  a loop from 6 to 5: ");
-    submit(s, queue, capture, looped(6, 5));
+    text(rt, b"  a swap to slot 0 serial 7, which was never given: ")?;
+    submit(rt, s, queue, capture, Submission::Swap(unknown))?;
+    text(rt, b"  a stinger of a song: ")?;
+    submit(rt, s, queue, capture, Submission::Stinger(song, 1.0))?;
+    text(rt, b"  a swap to a song of 44,100: ")?;
+    submit(rt, s, queue, capture, Submission::Swap(other))?;
+    text(rt, b"  a stinger at gain 17: ")?;
+    submit(rt, s, queue, capture, Submission::Stinger(song, 17.0))?;
+    text(rt, b"  a loop from 5 to 5: ")?;
+    submit(rt, s, queue, capture, looped(5, 5))?;
+    text(rt, b"  a loop from 6 to 5: ")?;
+    submit(rt, s, queue, capture, looped(6, 5))
 }
 
 /// '14: snapshot gain outside 0..2.'
-fn snapshot_gain() {
+fn snapshot_gain(rt: &impl Print) -> io::Result<()> {
     let queue = [0; 10];
     let capture = [0; 5];
     let mut pool = [0.0; 16];
@@ -386,9 +448,9 @@ fn snapshot_gain() {
         gain: 2.5,
         looped: LoopRange::Off,
     };
-    text(b"  a snapshot of gain 2.5: ");
+    text(rt, b"  a snapshot of gain 2.5: ")?;
     let r = control::apply_snapshot(s, &queue, &capture, x);
-    answer_told(s, r);
+    answer_told(rt, s, r)
 }
 
 /// A submission at once that is not told.
@@ -403,25 +465,25 @@ pub fn queue_one(
 }
 
 /// '15: queue full.' 22 comes before it, and is not counted as dropped.
-fn queue_full() {
+fn queue_full(rt: &impl Print) -> io::Result<()> {
     let mut queue = [0; 10];
     let mut capture = [0; 5];
     let mut pool = [0.0; 16];
     let s = opened(SMALL, &queue, &capture, &mut pool);
     let one = queue_one(s, &mut queue, &mut capture, Submission::Play);
     let full = queue_one(one, &mut queue, &mut capture, Submission::Pause);
-    text(b"  a third command in a queue of 2: ");
-    submit_full(full, queue, capture);
-    text(b"  a loop from 5 to 5 in its place: ");
-    submit(full, queue, capture, looped(5, 5));
+    text(rt, b"  a third command in a queue of 2: ")?;
+    submit_full(rt, full, queue, capture)?;
+    text(rt, b"  a loop from 5 to 5 in its place: ")?;
+    submit(rt, full, queue, capture, looped(5, 5))
 }
 
 /// A Play that finds the queue of 2 full.
-fn submit_full(s: Session, queue: [u64; 10], capture: [u64; 5]) {
+fn submit_full(rt: &impl Print, s: Session, queue: [u64; 10], capture: [u64; 5]) -> io::Result<()> {
     let mut lent = queue;
     let mut also = capture;
     let r = submission::submit(s, &mut lent, &mut also, Submission::Play, At::Immediate);
-    full_told(s, r, &lent, &queue, &also, &capture);
+    full_told(rt, s, r, &lent, &queue, &also, &capture)
 }
 
 /// A session whose capture of 1 is on, and full.
@@ -431,16 +493,16 @@ fn capture_one(s: Session, queue: &mut [u64; 10], capture: &mut [u64; 5]) -> Ses
 }
 
 /// '16: capture on and full.' 22 comes before it.
-fn captured() {
+fn captured(rt: &impl Print) -> io::Result<()> {
     let mut queue = [0; 10];
     let mut capture = [0; 5];
     let mut pool = [0.0; 16];
     let s = opened(SMALL, &queue, &capture, &mut pool);
     let full = capture_one(s, &mut queue, &mut capture);
-    text(b"  a second command in a capture of 1: ");
-    submit(full, queue, capture, Submission::Pause);
-    text(b"  a loop from 5 to 5 in its place: ");
-    submit(full, queue, capture, looped(5, 5));
+    text(rt, b"  a second command in a capture of 1: ")?;
+    submit(rt, full, queue, capture, Submission::Pause)?;
+    text(rt, b"  a loop from 5 to 5 in its place: ")?;
+    submit(rt, full, queue, capture, looped(5, 5))
 }
 
 /// A stinger at frame 9.
@@ -468,7 +530,7 @@ fn ring_all(
 }
 
 /// '17: a stinger while queued stingers + sounding voices = 16.' The queue holds 17.
-fn stingers() {
+fn stingers(rt: &impl Print) -> io::Result<()> {
     let settings = Settings {
         rate: RATE,
         mode: AS_TONO,
@@ -493,12 +555,12 @@ fn stingers() {
     let a = l.answer;
     let bell = handle_of(a);
     let s = ring_all(l.session, &mut queue, &mut capture, bell, 16);
-    text(b"  a stinger when 16 are queued: ");
-    submit_seventeen(s, queue, capture, Submission::Stinger(bell, 1.0));
+    text(rt, b"  a stinger when 16 are queued: ")?;
+    submit_seventeen(rt, s, queue, capture, Submission::Stinger(bell, 1.0))
 }
 
 /// '18: submission number 2^64 - 1 already given.' 22 comes before it.
-fn numbers() {
+fn numbers(rt: &impl Print) -> io::Result<()> {
     let queue = [0; 10];
     let capture = [0; 5];
     let mut pool = [0.0; 16];
@@ -506,42 +568,50 @@ fn numbers() {
     let mut desk = s.desk;
     desk.number = 18446744073709551615;
     s.desk = desk;
-    text(b"  a command when number 2^64 - 1 is given: ");
-    submit(s, queue, capture, Submission::Play);
-    text(b"  a loop from 5 to 5 in its place: ");
-    submit(s, queue, capture, looped(5, 5));
+    text(rt, b"  a command when number 2^64 - 1 is given: ")?;
+    submit(rt, s, queue, capture, Submission::Play)?;
+    text(rt, b"  a loop from 5 to 5 in its place: ")?;
+    submit(rt, s, queue, capture, looped(5, 5))
 }
 
 /// '19: clip held by song, tail, voice, queue or running capture.'
-fn song_held() {
+fn song_held(rt: &impl Print) -> io::Result<()> {
     let queue = [0; 10];
     let capture = [0; 5];
     let mut pool = [0.0; 16];
     let s = opened(SMALL, &queue, &capture, &mut pool);
-    text(b"  retire of the song: ");
+    text(rt, b"  retire of the song: ")?;
     let r = clips::retire(s, &queue, &capture, s.song());
-    answer_told(s, r);
+    answer_told(rt, s, r)
 }
 
 /// '20: list for captured records too short.'
-fn list_short() {
+fn list_short(rt: &impl Print) -> io::Result<()> {
     let mut queue = [0; 10];
     let mut capture = [0; 5];
     let mut pool = [0.0; 16];
     let s = opened(SMALL, &queue, &capture, &mut pool);
     let full = capture_one(s, &mut queue, &mut capture);
-    text(b"  stop capture of 1 record into a list of 4 words: ");
-    stop_short(full, &queue, &capture);
+    text(rt, b"  stop capture of 1 record into a list of 4 words: ")?;
+    stop_short(rt, full, &queue, &capture)
 }
 
-fn stop_short(s: Session, queue: &[u64; 10], capture: &[u64; 5]) {
+fn stop_short(
+    rt: &impl Print,
+    s: Session,
+    queue: &[u64; 10],
+    capture: &[u64; 5],
+) -> io::Result<()> {
     let mut list = [7; 4];
     let was = list;
     let r = control::stop_capture(s, queue, capture, &mut list);
     let a = r.answer;
     let after = r.session;
-    print::stop_answer(a);
-    crate::told::kept(crate::same::session(s, after) & crate::same::words(&list, &was));
+    print::stop_answer(rt, a)?;
+    crate::told::kept(
+        rt,
+        crate::same::session(s, after) & crate::same::words(&list, &was),
+    )
 }
 
 fn row(at: u64, kind: u64, first: u64, second: u64) -> Row {
@@ -562,32 +632,41 @@ fn put_four(list: &mut [u64; 20]) {
     timeline::put_row(list, 3, row(2, 3, 0, 0));
 }
 
-fn replay(s: Session, queue: &mut [u64; 10], capture: &[u64; 5], list: &[u64; 20]) -> Session {
+fn replay(
+    rt: &impl Print,
+    s: Session,
+    queue: &mut [u64; 10],
+    capture: &[u64; 5],
+    list: &[u64; 20],
+) -> io::Result<Session> {
     let r = submission::replay(s, queue, capture, list);
     let a = r.answer;
-    print::replay_answer(a);
-    r.session
+    print::replay_answer(rt, a)?;
+    Ok(r.session)
 }
 
-fn metrics(s: Session, queue: &[u64; 10], capture: &[u64; 5]) {
+fn metrics(rt: &impl Print, s: Session, queue: &[u64; 10], capture: &[u64; 5]) -> io::Result<()> {
     let r = control::metrics(s, queue, capture);
     let a = r.answer;
-    print::metrics_answer(a);
+    print::metrics_answer(rt, a)
 }
 
 /// '21: replayed record unreadable (seen only as a skip).' 'It reports taken, queue-full and otherwise skipped.'
-fn unreadable() {
+fn unreadable(rt: &impl Print) -> io::Result<()> {
     let mut queue = [0; 10];
     let capture = [0; 5];
     let mut pool = [0.0; 16];
     let s = opened(SMALL, &queue, &capture, &mut pool);
     let mut list = [0; 20];
     put_four(&mut list);
-    text(b"  replay of 4 records into a queue of 2, the second of kind 11, which is 21: ");
-    let after = replay(s, &mut queue, &capture, &list);
-    text(b"\n    then metrics: ");
-    metrics(after, &queue, &capture);
-    text(b"\n");
+    text(
+        rt,
+        b"  replay of 4 records into a queue of 2, the second of kind 11, which is 21: ",
+    )?;
+    let after = replay(rt, s, &mut queue, &capture, &list)?;
+    text(rt, b"\n    then metrics: ")?;
+    metrics(rt, after, &queue, &capture)?;
+    text(rt, b"\n")
 }
 
 /// Four loops, the first and the third senseless.
@@ -599,42 +678,45 @@ fn put_loops(list: &mut [u64; 20]) {
 }
 
 /// 22 in a replayed record: otherwise skipped, also where the queue is full.
-fn senseless() {
+fn senseless(rt: &impl Print) -> io::Result<()> {
     let mut queue = [0; 10];
     let capture = [0; 5];
     let mut pool = [0.0; 16];
     let s = opened(SMALL, &queue, &capture, &mut pool);
     let mut list = [0; 20];
     put_loops(&mut list);
-    text(b"  replay of loops 5..5, 5..6, 6..5 and 5..7 into a queue of 2: ");
-    let full = replay(s, &mut queue, &capture, &list);
-    text(b"\n    once more: ");
-    let after = replay(full, &mut queue, &capture, &list);
-    text(b"\n    then metrics: ");
-    metrics(after, &queue, &capture);
-    text(b"\n");
+    text(
+        rt,
+        b"  replay of loops 5..5, 5..6, 6..5 and 5..7 into a queue of 2: ",
+    )?;
+    let full = replay(rt, s, &mut queue, &capture, &list)?;
+    text(rt, b"\n    once more: ")?;
+    let after = replay(rt, full, &mut queue, &capture, &list)?;
+    text(rt, b"\n    then metrics: ")?;
+    metrics(rt, after, &queue, &capture)?;
+    text(rt, b"\n")
 }
 
-pub fn all() {
-    text(b"each refusal number, at a call that meets it\n");
-    stores();
-    altered();
-    pools();
-    odd();
-    clock();
-    samples();
-    modes();
-    slots();
-    serials();
-    room();
-    handles();
-    snapshot_gain();
-    queue_full();
-    captured();
-    stingers();
-    numbers();
-    song_held();
-    list_short();
-    unreadable();
-    senseless();
+pub fn all(rt: &impl Print) -> io::Result<()> {
+    text(rt, b"each refusal number, at a call that meets it\n")?;
+    stores(rt)?;
+    altered(rt)?;
+    pools(rt)?;
+    odd(rt)?;
+    clock(rt)?;
+    samples(rt)?;
+    modes(rt)?;
+    slots(rt)?;
+    serials(rt)?;
+    room(rt)?;
+    handles(rt)?;
+    snapshot_gain(rt)?;
+    queue_full(rt)?;
+    captured(rt)?;
+    stingers(rt)?;
+    numbers(rt)?;
+    song_held(rt)?;
+    list_short(rt)?;
+    unreadable(rt)?;
+    senseless(rt)
 }

@@ -2,77 +2,78 @@
 use block::{BlockAnswer, BlockAnswered};
 use print::{number, sample, text};
 use session::Session;
+use std::io;
 use transport::LoopRange;
 
 /// The samples of a block's output from one place on to another.
-pub fn samples(out: &[f32], from: usize, to: usize) {
+pub fn samples(rt: &impl Print, out: &[f32], from: usize, to: usize) -> io::Result<()> {
     let mut i = from;
     while i < to {
         if i < out.len() {
-            text(b" ");
-            sample(out[i]);
+            text(rt, b" ")?;
+            sample(rt, out[i])?;
         }
         i += 1;
     }
+    Ok(())
 }
 
 /// A block's answer: the passes made in it.
-pub fn block_answer(a: BlockAnswer) {
+pub fn block_answer(rt: &impl Print, a: BlockAnswer) -> io::Result<()> {
     match a {
         BlockAnswer::Done(n) => {
-            text(b"done, passes ");
-            number(n);
+            text(rt, b"done, passes ")?;
+            number(rt, n)
         }
-        BlockAnswer::Refused(k) => print::refused(k),
+        BlockAnswer::Refused(k) => print::refused(rt, k),
     }
 }
 
 /// The position that a host reads.
-pub fn position(s: Session) {
-    text(b", position ");
-    number(s.position().0);
+pub fn position(rt: &impl Print, s: Session) -> io::Result<()> {
+    text(rt, b", position ")?;
+    number(rt, s.position().0)
 }
 
 /// Where a session stands.
-pub fn place(s: Session) {
-    text(b", clock ");
-    number(s.clock().0);
-    position(s);
-    text(b", ");
-    print::state(s.state());
-    text(b", executed ");
+pub fn place(rt: &impl Print, s: Session) -> io::Result<()> {
+    text(rt, b", clock ")?;
+    number(rt, s.clock().0)?;
+    position(rt, s)?;
+    text(rt, b", ")?;
+    print::state(rt, s.state())?;
+    text(rt, b", executed ")?;
     let stage = s.stage;
-    number(stage.counters.executed);
-    text(b", queued ");
-    number(s.queue_depth() as u64);
-    text(b"\n");
+    number(rt, stage.counters.executed)?;
+    text(rt, b", queued ")?;
+    number(rt, s.queue_depth() as u64)?;
+    text(rt, b"\n")
 }
 
-pub fn range(l: LoopRange) {
+pub fn range(rt: &impl Print, l: LoopRange) -> io::Result<()> {
     match l {
-        LoopRange::Off => text(b"no loop"),
+        LoopRange::Off => text(rt, b"no loop"),
         LoopRange::Range(start, end) => {
-            text(b"loop ");
-            number(start.0);
-            text(b"..");
-            number(end.0);
+            text(rt, b"loop ")?;
+            number(rt, start.0)?;
+            text(rt, b"..")?;
+            number(rt, end.0)
         }
     }
 }
 
 /// What a block answered, and where the session then stands.
-pub fn stands(r: BlockAnswered) {
+pub fn stands(rt: &impl Print, r: BlockAnswered) -> io::Result<()> {
     let a = r.answer;
-    block_answer(a);
+    block_answer(rt, a)?;
     let s = r.session;
-    place(s);
+    place(rt, s)
 }
 
 /// Whether a refused call left all as it was.
-pub fn kept(same: bool) {
+pub fn kept(rt: &impl Print, same: bool) -> io::Result<()> {
     if same {
-        text(b", all as it was\n");
-        return;
+        return text(rt, b", all as it was\n");
     }
-    text(b", CHANGED\n");
+    text(rt, b", CHANGED\n")
 }

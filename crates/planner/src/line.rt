@@ -1,6 +1,10 @@
 //! A line that is made from left to right and written at once. Each function takes how many bytes are there, and answers
 //! how many there are then; what a line has no room for is left out.
 
+ghost use Rattle.std.specs.Prelude.{◌≤◌};
+
+use std::io;
+
 /// The most bytes of a line, more than twice what the longest row takes: a loop's with the largest numbers.
 pub const ROOM: usize = 512;
 
@@ -63,19 +67,36 @@ fn groups(line: &mut [u8; ROOM], n: usize, digits: &[u8]) -> usize {
     at
 }
 
+/// The digits of a number, at the end of a store: the place of the first.
+fn decimal(x: u64, digits: &mut [u8; 20]) -> usize
+    ensures { result ≤ 20 }
+{
+    let mut rest = x;
+    let mut i: usize = 20;
+    while i > 0 {
+        i -= 1;
+        digits[i] = b'0' + (rest % 10) as u8;
+        rest /= 10;
+        if rest == 0 {
+            return i;
+        }
+    }
+    i
+}
+
 /// A number in groups of three.
 pub fn number(line: &mut [u8; ROOM], n: usize, x: u64) -> usize {
     let mut digits = [0u8; 20];
-    let k = io::decimal(x, &mut digits);
-    groups(line, n, &digits[..k])
+    let first = decimal(x, &mut digits);
+    groups(line, n, &digits[first..])
 }
 
 /// A number's digits, with zeros before them up to so many places.
 pub fn digits(line: &mut [u8; ROOM], n: usize, x: u64, places: usize) -> usize {
     let mut digits = [0u8; 20];
-    let k = io::decimal(x, &mut digits);
-    let m = fill(line, n, b'0', gap(k, places));
-    put(line, m, &digits[..k])
+    let first = decimal(x, &mut digits);
+    let m = fill(line, n, b'0', gap(20 - first, places));
+    put(line, m, &digits[first..])
 }
 
 /// A byte of a table's row, if it is the row that is looked for: `@` stands for one number, `%` for another.
@@ -117,7 +138,7 @@ pub fn words(line: &mut [u8; ROOM], n: usize, table: &[u8], k: u64, x: u64, y: u
 /// How many digits a number has.
 pub fn digits_of(x: u64) -> usize {
     let mut digits = [0u8; 20];
-    io::decimal(x, &mut digits)
+    20 - decimal(x, &mut digits)
 }
 
 /// How many places a number takes in groups of three.
@@ -168,16 +189,16 @@ pub fn blanks(line: &mut [u8; ROOM], n: usize, used: usize, places: usize) -> us
 }
 
 /// Writes the first n bytes of a line.
-pub fn write(fd: i32, line: &[u8; ROOM], n: usize) {
+pub fn write(out: &impl Print, line: &[u8; ROOM], n: usize) -> io::Result<()> {
     if n > ROOM {
-        return;
+        return Ok(());
     }
     let whole: &[u8] = line;
-    io::write_all(fd, &whole[..n]);
+    out.write_all(&whole[..n])
 }
 
 /// Ends a line and writes it.
-pub fn end(fd: i32, line: &mut [u8; ROOM], n: usize) {
+pub fn end(out: &impl Print, line: &mut [u8; ROOM], n: usize) -> io::Result<()> {
     let m = byte(line, n, b'\n');
-    write(fd, line, m);
+    write(out, line, m)
 }

@@ -1,4 +1,4 @@
-//! The clip list: `clips 1 as_tono` or `clips 1 house`, then a line for each clip, `SLOT SERIAL song RATE FRAMES LENGTH` or
+//! The clip list: `clips 1 as-tono` or `clips 1 house`, then a line for each clip, `SLOT SERIAL song RATE FRAMES LENGTH` or
 //! `SLOT SERIAL stinger RATE FRAMES`. A sixth word of a stinger's line is a number too, and means nothing.
 use crate::scan::{Flaw, Scan, Word};
 use stage::{AS_TONO, HOUSE};
@@ -12,7 +12,7 @@ pub const WORDS: usize = 198;
 /// `clips` by its bytes.
 const HEAD_WORD: u64 = 0x63_6c69_7073;
 
-/// `as_tono` by its bytes.
+/// `as-tono` by its bytes.
 const AS_TONO_WORD: u64 = 0x61_732d_746f_6e6f;
 
 /// `house` by its bytes.

@@ -5,7 +5,7 @@
 //! It is run on `data/`: 12 records over two minutes, three of which a replay does not take, and one that is not yet due.
 #![tactic(auto)]
 
-ghost use Rattle.io.specs.Counts.{IsPrefixLen};
+ghost use Rattle.std.specs.Prelude.{◌≤◌, length};
 
 mod blocks;
 mod line;
@@ -21,6 +21,7 @@ use dryrun::{DryAnswer, DryDone, DryRefusal};
 use files::Whole;
 use list::{CLIPS, List, WORDS};
 use sheet::{REASONS, RECORDS, ROWS};
+use std::io;
 
 /// The most bytes of a clip list.
 const LIST: usize = 16384;
@@ -32,17 +33,25 @@ const TOUR: usize = 1048576;
 const BLOCKS: usize = 65536;
 
 /// Why there is no dry run.
-fn refused(x: DryRefusal, place: usize, clips: &[u64; WORDS], lines: &[u64; CLIPS], count: usize) {
+fn refused(
+    rt: &HostRuntime,
+    x: DryRefusal,
+    place: usize,
+    clips: &[u64; WORDS],
+    lines: &[u64; CLIPS],
+    count: usize,
+) {
     match x {
-        DryRefusal::Clips => why::refused(clips, lines, count),
-        DryRefusal::Tour(f) => said::tour(f, place),
-        DryRefusal::Commands => said::refused(b"more than 256 commands"),
-        DryRefusal::Clock => said::refused(b"4, the blocks pass 2^62"),
+        DryRefusal::Clips => why::refused(rt, clips, lines, count),
+        DryRefusal::Tour(f) => said::tour(rt, f, place),
+        DryRefusal::Commands => said::refused(rt, b"more than 256 commands"),
+        DryRefusal::Clock => said::refused(rt, b"4, the blocks pass 2^62"),
     }
 }
 
 /// The sheet, if nothing is wrong with the block lengths.
 fn done(
+    rt: &HostRuntime,
     l: List,
     clips: &[u64; WORDS],
     s: Blocks,
@@ -50,17 +59,18 @@ fn done(
     reasons: &[u64; REASONS],
     rows: &[u64; ROWS],
     d: DryDone,
-) {
+) -> io::Result<()> {
     let flaw = s.flaw;
     if !flaw.is_none() {
-        said::blocks(s);
-        return;
+        said::blocks(rt, s);
+        return Ok(());
     }
-    sheet::all(l.mode, clips, l.count, records, reasons, rows, d);
+    sheet::all(rt, l.mode, clips, l.count, records, reasons, rows, d)
 }
 
 /// The dry run of words that were read.
 fn run(
+    rt: &HostRuntime,
     l: List,
     clips: &[u64; WORDS],
     lines: &[u64; CLIPS],
@@ -68,7 +78,7 @@ fn run(
     s: Blocks,
     clip_words: &[u64],
     pairs: &[u64],
-) {
+) -> io::Result<()> {
     let mut records = [0; RECORDS];
     let mut reasons = [0; REASONS];
     let mut queue = [0; RECORDS];
@@ -84,118 +94,145 @@ fn run(
         &mut rows,
     );
     match a {
-        DryAnswer::Refused(x, place) => refused(x, place, clips, lines, l.count),
-        DryAnswer::Done(d) => done(l, clips, s, &records, &reasons, &rows, d),
+        DryAnswer::Refused(x, place) => {
+            refused(rt, x, place, clips, lines, l.count);
+            Ok(())
+        },
+        DryAnswer::Done(d) => done(rt, l, clips, s, &records, &reasons, &rows, d),
     }
 }
 
 /// The dry run over a list and the block lengths that were kept.
 fn over(
+    rt: &HostRuntime,
     l: List,
     clips: &[u64; WORDS],
     lines: &[u64; CLIPS],
     tour: &[u8],
     s: Blocks,
     pairs: &[u64; PAIRS],
-) {
+) -> io::Result<()> {
     let each: &[u64] = clips;
     let all: &[u64] = pairs;
     let count = l.count;
     let words = s.kept();
     if count > CLIPS {
-        return;
+        return Ok(());
     }
     if words > PAIRS {
-        return;
+        return Ok(());
     }
-    run(l, clips, lines, tour, s, &each[..count * 6], &all[..words]);
+    run(
+        rt,
+        l,
+        clips,
+        lines,
+        tour,
+        s,
+        &each[..count * 6],
+        &all[..words],
+    )
 }
 
 /// Reads the block lengths.
 fn lengths(
+    rt: &HostRuntime,
     l: List,
     clips: &[u64; WORDS],
     lines: &[u64; CLIPS],
     tour: &[u8],
     text: &[u8],
     pairs: &mut [u64; PAIRS],
-) {
+) -> io::Result<()> {
     let s = blocks::read(text, pairs);
-    over(l, clips, lines, tour, s, pairs);
+    over(rt, l, clips, lines, tour, s, pairs)
 }
 
 /// The dry run over a list that reads well.
-fn planned(l: List, clips: &[u64; WORDS], lines: &[u64; CLIPS], tour: &[u8], text: &[u8]) {
+fn planned(
+    rt: &HostRuntime,
+    l: List,
+    clips: &[u64; WORDS],
+    lines: &[u64; CLIPS],
+    tour: &[u8],
+    text: &[u8],
+) -> io::Result<()> {
     let flaw = l.flaw;
     if !flaw.is_none() {
-        said::list(l);
-        return;
+        said::list(rt, l);
+        return Ok(());
     }
     let mut pairs = [0; PAIRS];
-    lengths(l, clips, lines, tour, text, &mut pairs);
+    lengths(rt, l, clips, lines, tour, text, &mut pairs)
 }
 
 /// Three files that were read.
-fn plan(text: &[u8], tour: &[u8], lengths: &[u8]) {
+fn plan(rt: &HostRuntime, text: &[u8], tour: &[u8], lengths: &[u8]) -> io::Result<()> {
     let mut clips = [0; WORDS];
     let mut lines = [0; CLIPS];
     let l = list::read(text, &mut clips, &mut lines);
-    planned(l, &clips, &lines, tour, lengths);
+    planned(rt, l, &clips, &lines, tour, lengths)
 }
 
+/// The most bytes of a name.
+const NAME: usize = 4096;
+
 /// The file that an argument names.
-fn file(i: usize, bytes: &mut [u8], long: &[u8]) -> Whole
-    ensures { IsPrefixLen result.count bytes.new }
+fn file(rt: &HostRuntime, i: usize, bytes: &mut [u8], long: &[u8]) -> Whole
+    ensures { result.count ≤ length bytes.new }
 {
-    let mut name = io::buffer();
-    let n = os::arg(i, &mut name);
+    let mut name = [0; NAME];
+    let n = files::argument(rt, i, &mut name);
     if n == 0 {
-        said::how();
+        said::how(rt);
         return Whole {
             read: false,
             count: 0,
         };
     }
-    files::read(b"planner", &name[..n], bytes, long)
+    files::read(rt, b"planner", &name[..n], bytes, long)
 }
 
 /// Reads the block lengths' file.
-fn third(list: &[u8], tour: &[u8], bytes: &mut [u8; BLOCKS]) {
-    let w = file(3, bytes, b" has more than 65,536 bytes");
+fn third(rt: &HostRuntime, list: &[u8], tour: &[u8], bytes: &mut [u8; BLOCKS]) -> io::Result<()> {
+    let w = file(rt, 3, bytes, b" has more than 65,536 bytes");
     let n = w.count;
     if w.read {
         let whole: &[u8] = bytes;
-        plan(list, tour, &whole[..n]);
+        plan(rt, list, tour, &whole[..n])?;
     }
+    Ok(())
 }
 
 /// Reads the tour's file.
-fn second(list: &[u8], bytes: &mut [u8; TOUR]) {
-    let w = file(2, bytes, b" has more than 1,048,576 bytes");
+fn second(rt: &HostRuntime, list: &[u8], bytes: &mut [u8; TOUR]) -> io::Result<()> {
+    let w = file(rt, 2, bytes, b" has more than 1,048,576 bytes");
     let n = w.count;
     if w.read {
         let whole: &[u8] = bytes;
         let mut lengths = [0; BLOCKS];
-        third(list, &whole[..n], &mut lengths);
+        third(rt, list, &whole[..n], &mut lengths)?;
     }
+    Ok(())
 }
 
 /// Reads the list's file.
-fn first(bytes: &mut [u8; LIST]) {
-    let w = file(1, bytes, b" has more than 16,384 bytes");
+fn first(rt: &HostRuntime, bytes: &mut [u8; LIST]) -> io::Result<()> {
+    let w = file(rt, 1, bytes, b" has more than 16,384 bytes");
     let n = w.count;
     if w.read {
         let whole: &[u8] = bytes;
         let mut tour = [0; TOUR];
-        second(&whole[..n], &mut tour);
+        second(rt, &whole[..n], &mut tour)?;
     }
+    Ok(())
 }
 
-fn main() {
-    if os::arg_count() != 4 {
-        said::how();
-        return;
+fn main(rt: HostRuntime) -> io::Result<()> {
+    if !files::is_given(&rt, 3) | files::is_given(&rt, 4) {
+        said::how(&rt);
+        return Ok(());
     }
     let mut list = [0; LIST];
-    first(&mut list);
+    first(&rt, &mut list)
 }

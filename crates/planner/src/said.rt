@@ -4,27 +4,27 @@ use crate::line;
 use crate::line::ROOM;
 use crate::list::List;
 use crate::scan::Flaw;
-use libc::STDERR_FILENO;
 use tourfile::Fault;
 
 /// How the program is called.
-pub fn how() {
+pub fn how(rt: &HostRuntime) {
     files::text(
+        rt,
         b"planner: call it as `planner CLIPS TOUR BLOCKS`, with the names of a clip list, a tour's file and a list of block lengths\n",
     );
 }
 
-/// Ends a line and writes it.
-pub fn end(line: &mut [u8; ROOM], n: usize) {
-    line::end(STDERR_FILENO, line, n);
+/// Ends a line and writes it; where that fails, there is nowhere left to say so.
+pub fn end(rt: &HostRuntime, line: &mut [u8; ROOM], n: usize) {
+    let _ = line::end(&rt.stderr(), line, n);
 }
 
 /// Why there is no dry run.
-pub fn refused(why: &[u8]) {
+pub fn refused(rt: &HostRuntime, why: &[u8]) {
     let mut line = [0u8; ROOM];
     let n = line::put(&mut line, 0, b"refused: ");
     let n = line::put(&mut line, n, why);
-    end(&mut line, n);
+    end(rt, &mut line, n);
 }
 
 /// A line of the clip list.
@@ -56,9 +56,9 @@ fn flaw(line: &mut [u8; ROOM], n: usize, place: u64, x: Flaw) -> usize {
         line,
         n,
         b"nothing\n\
-          no head: `clips 1 as_tono` or `clips 1 house`\n\
+          no head: `clips 1 as-tono` or `clips 1 house`\n\
           a head of another version than 1\n\
-          a mode that is neither as_tono nor house\n\
+          a mode that is neither as-tono nor house\n\
           a clip that is neither song nor stinger\n\
           word @ is not a number\n\
           word @ is above 2^64 - 1\n\
@@ -71,23 +71,23 @@ fn flaw(line: &mut [u8; ROOM], n: usize, place: u64, x: Flaw) -> usize {
 }
 
 /// What is wrong with a clip list's text.
-pub fn list(l: List) {
+pub fn list(rt: &HostRuntime, l: List) {
     let mut line = [0u8; ROOM];
     let scan = l.scan;
     let x = l.flaw;
     let n = at(&mut line, LIST, scan.line);
     let n = flaw(&mut line, n, scan.place, x);
-    end(&mut line, n);
+    end(rt, &mut line, n);
 }
 
 /// What is wrong with the text of the block lengths.
-pub fn blocks(s: Blocks) {
+pub fn blocks(rt: &HostRuntime, s: Blocks) {
     let mut line = [0u8; ROOM];
     let scan = s.scan;
     let x = s.flaw;
     let n = at(&mut line, BLOCKS, scan.line);
     let n = flaw(&mut line, n, scan.place, x);
-    end(&mut line, n);
+    end(rt, &mut line, n);
 }
 
 /// A fault of a tour's file, from 101 on.
@@ -114,9 +114,9 @@ fn fault(line: &mut [u8; ROOM], n: usize, x: Fault) -> usize {
 }
 
 /// What is wrong with a tour's file.
-pub fn tour(x: Fault, place: usize) {
+pub fn tour(rt: &HostRuntime, x: Fault, place: usize) {
     let mut line = [0u8; ROOM];
     let n = at(&mut line, TOUR, place as u64);
     let n = fault(&mut line, n, x);
-    end(&mut line, n);
+    end(rt, &mut line, n);
 }

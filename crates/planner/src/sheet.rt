@@ -5,7 +5,7 @@ use crate::list::WORDS;
 use crate::{line, list, words};
 use dryrun::DryDone;
 use leaps::{Dry, Run};
-use libc::STDOUT_FILENO;
+use std::io;
 use transport::{LoopRange, Transport, TransportState};
 
 /// The words of 256 records, five each.
@@ -19,8 +19,8 @@ pub const REASONS: usize = 256;
 pub const ROWS: usize = 2560;
 
 /// Ends a line and writes it.
-fn end(line: &mut [u8; ROOM], n: usize) {
-    line::end(STDOUT_FILENO, line, n);
+fn end(rt: &impl Print, line: &mut [u8; ROOM], n: usize) -> io::Result<()> {
+    line::end(rt, line, n)
 }
 
 /// The larger of two.
@@ -34,7 +34,7 @@ fn larger(a: usize, b: usize) -> usize {
 // ---- the head
 
 /// Mode, rate and how long the dry run is.
-fn head(mode: u32, rate: u64, frames: u64) {
+fn head(rt: &impl Print, mode: u32, rate: u64, frames: u64) -> io::Result<()> {
     let mut line = [0u8; ROOM];
     let n = line::words(
         &mut line,
@@ -46,7 +46,7 @@ fn head(mode: u32, rate: u64, frames: u64) {
         frames,
     );
     let n = words::time(&mut line, n, frames, rate);
-    end(&mut line, n);
+    end(rt, &mut line, n)
 }
 
 // ---- the clips
@@ -71,14 +71,14 @@ fn widest_clip(clips: &[u64; WORDS], n: usize, place: usize, least: usize) -> us
 }
 
 /// The head of the clips' columns.
-fn clip_head(w: ClipWidths) {
+fn clip_head(rt: &impl Print, w: ClipWidths) -> io::Result<()> {
     let mut line = [0u8; ROOM];
     let n = line::put(&mut line, 0, b"\nslot");
     let n = line::head(&mut line, n, b"serial", w.serial);
     let n = line::put(&mut line, n, b" kind     rate");
     let n = line::head(&mut line, n, b"frames", w.frames);
     let n = line::head(&mut line, n, b"length", w.long);
-    end(&mut line, n);
+    end(rt, &mut line, n)
 }
 
 /// The length of a song.
@@ -112,31 +112,32 @@ fn clip_last(
 }
 
 /// The line of clip i.
-fn clip(clips: &[u64; WORDS], i: usize, w: ClipWidths) {
+fn clip(rt: &impl Print, clips: &[u64; WORDS], i: usize, w: ClipWidths) -> io::Result<()> {
     let mut line = [0u8; ROOM];
     let n = clip_first(&mut line, clips, i, w);
     let n = clip_last(&mut line, n, clips, i, w);
-    end(&mut line, n);
+    end(rt, &mut line, n)
 }
 
 /// A line for each of n clips.
-fn clip_lines(clips: &[u64; WORDS], n: usize, w: ClipWidths) {
+fn clip_lines(rt: &impl Print, clips: &[u64; WORDS], n: usize, w: ClipWidths) -> io::Result<()> {
     let mut i: usize = 0;
     while i < n {
-        clip(clips, i, w);
+        clip(rt, clips, i, w)?;
         i += 1;
     }
+    Ok(())
 }
 
 /// The first n clips.
-fn all_clips(clips: &[u64; WORDS], n: usize) {
+fn all_clips(rt: &impl Print, clips: &[u64; WORDS], n: usize) -> io::Result<()> {
     let w = ClipWidths {
         serial: widest_clip(clips, n, 1, 6),
         frames: widest_clip(clips, n, 4, 9),
         long: widest_clip(clips, n, 5, 10),
     };
-    clip_head(w);
-    clip_lines(clips, n, w);
+    clip_head(rt, w)?;
+    clip_lines(rt, clips, n, w)
 }
 
 // ---- the records that are not taken
@@ -221,7 +222,14 @@ fn record_head(line: &mut [u8; ROOM], i: usize, frame: u64) -> usize {
 }
 
 /// The line of record i, which is not taken.
-fn skipped(records: &[u64; RECORDS], i: usize, number: u64, clips: &[u64; WORDS], count: usize) {
+fn skipped(
+    rt: &impl Print,
+    records: &[u64; RECORDS],
+    i: usize,
+    number: u64,
+    clips: &[u64; WORDS],
+    count: usize,
+) -> io::Result<()> {
     let mut line = [0u8; ROOM];
     let kind = record_word(records, i, 2);
     let first = record_word(records, i, 3);
@@ -231,48 +239,51 @@ fn skipped(records: &[u64; RECORDS], i: usize, number: u64, clips: &[u64; WORDS]
     let n = words::command(&mut line, n, kind, first, second);
     let n = line::put(&mut line, n, b": ");
     let n = why(&mut line, n, number, why_row(number, kind, second), rate);
-    end(&mut line, n);
+    end(rt, &mut line, n)
 }
 
 /// The line of record i, if it is not taken.
 fn record(
+    rt: &impl Print,
     records: &[u64; RECORDS],
     i: usize,
     reasons: &[u64; REASONS],
     clips: &[u64; WORDS],
     count: usize,
-) {
+) -> io::Result<()> {
     let number = reason(reasons, i);
     if number == 0 {
-        return;
+        return Ok(());
     }
-    skipped(records, i, number, clips, count);
+    skipped(rt, records, i, number, clips, count)
 }
 
 /// A line for each record of n that is not taken.
 fn all_skipped(
+    rt: &impl Print,
     records: &[u64; RECORDS],
     n: usize,
     reasons: &[u64; REASONS],
     clips: &[u64; WORDS],
     count: usize,
-) {
+) -> io::Result<()> {
     let mut i: usize = 0;
     while i < n {
-        record(records, i, reasons, clips, count);
+        record(rt, records, i, reasons, clips, count)?;
         i += 1;
     }
+    Ok(())
 }
 
 /// How many records there are, and how many are taken.
-fn counts(commands: usize, taken: usize) {
+fn counts(rt: &impl Print, commands: usize, taken: usize) -> io::Result<()> {
     let mut line = [0u8; ROOM];
     let all = commands as u64;
     let some = taken as u64;
     let n = line::put(&mut line, 0, b"\n");
     let n = line::words(&mut line, n, b"records @, taken %, skipped ", 0, all, some);
     let n = line::number(&mut line, n, std::num::wrapping_sub_u64(all, some));
-    end(&mut line, n);
+    end(rt, &mut line, n)
 }
 
 // ---- the executed commands
@@ -384,11 +395,11 @@ fn last_heads(line: &mut [u8; ROOM], n: usize, w: Widths) -> usize {
 }
 
 /// The head of the rows' columns.
-fn row_head(w: Widths) {
+fn row_head(rt: &impl Print, w: Widths) -> io::Result<()> {
     let mut line = [0u8; ROOM];
     let n = first_heads(&mut line, w);
     let n = last_heads(&mut line, n, w);
-    end(&mut line, n);
+    end(rt, &mut line, n)
 }
 
 /// Clock and time of a row.
@@ -423,30 +434,39 @@ fn row_numbers(line: &mut [u8; ROOM], n: usize, rows: &[u64; ROWS], i: usize, w:
 }
 
 /// Row i, of the record at a place of the file.
-fn row(rows: &[u64; ROWS], i: usize, place: u64, rate: u64, w: Widths) {
+fn row(
+    rt: &impl Print,
+    rows: &[u64; ROWS],
+    i: usize,
+    place: u64,
+    rate: u64,
+    w: Widths,
+) -> io::Result<()> {
     let mut line = [0u8; ROOM];
     let n = row_clock(&mut line, row_word(rows, i, 5), rate, w);
     let n = line::next(&mut line, n, place, 6);
     let n = row_command(&mut line, n, rows, i, w);
     let n = row_numbers(&mut line, n, rows, i, w);
-    end(&mut line, n);
+    end(rt, &mut line, n)
 }
 
 /// The first n rows, of so many records.
 fn all_rows(
+    rt: &impl Print,
     rows: &[u64; ROWS],
     n: usize,
     reasons: &[u64; REASONS],
     commands: usize,
     rate: u64,
     w: Widths,
-) {
+) -> io::Result<()> {
     let mut i: usize = 0;
     while i < n {
         let place = place_of(reasons, commands, row_word(rows, i, 1));
-        row(rows, i, place, rate, w);
+        row(rt, rows, i, place, rate, w)?;
         i += 1;
     }
+    Ok(())
 }
 
 // ---- the end
@@ -495,7 +515,7 @@ fn standing(line: &mut [u8; ROOM], n: usize, t: Transport) -> usize {
 }
 
 /// The clock, and where the song stands.
-fn last(d: Dry) {
+fn last(rt: &impl Print, d: Dry) -> io::Result<()> {
     let mut line = [0u8; ROOM];
     let clock = d.clock;
     let p = d.playhead;
@@ -505,11 +525,11 @@ fn last(d: Dry) {
     let n = line::put(&mut line, 0, b"\n");
     let n = line::words(&mut line, n, b"at @: slot %, ", 0, clock.0, slot);
     let n = standing(&mut line, n, t);
-    end(&mut line, n);
+    end(rt, &mut line, n)
 }
 
 /// How many commands were executed, and how many are not yet due.
-fn executed(r: Run) {
+fn executed(rt: &impl Print, r: Run) -> io::Result<()> {
     let mut line = [0u8; ROOM];
     let n = line::words(
         &mut line,
@@ -519,27 +539,29 @@ fn executed(r: Run) {
         r.rows as u64,
         r.queued as u64,
     );
-    end(&mut line, n);
+    end(rt, &mut line, n)
 }
 
 // ---- the whole
 
 /// The rows under their head.
 fn table(
+    rt: &impl Print,
     rows: &[u64; ROWS],
     n: usize,
     reasons: &[u64; REASONS],
     commands: usize,
     clock: u64,
     rate: u64,
-) {
+) -> io::Result<()> {
     let w = widths_of(rows, n, clock, rate);
-    row_head(w);
-    all_rows(rows, n, reasons, commands, rate, w);
+    row_head(rt, w)?;
+    all_rows(rt, rows, n, reasons, commands, rate, w)
 }
 
 /// Writes the sheet of a dry run over the first clips of a list.
 pub fn all(
+    rt: &impl Print,
     mode: u32,
     clips: &[u64; WORDS],
     count: usize,
@@ -547,16 +569,16 @@ pub fn all(
     reasons: &[u64; REASONS],
     rows: &[u64; ROWS],
     d: DryDone,
-) {
+) -> io::Result<()> {
     let run = d.run;
     let dry = run.dry;
     let clock = dry.clock;
     let rate = list::cell(clips, 0, 3);
-    head(mode, rate, clock.0);
-    all_clips(clips, count);
-    counts(d.commands, d.report.taken);
-    all_skipped(records, d.commands, reasons, clips, count);
-    table(rows, run.rows, reasons, d.commands, clock.0, rate);
-    last(dry);
-    executed(run);
+    head(rt, mode, rate, clock.0)?;
+    all_clips(rt, clips, count)?;
+    counts(rt, d.commands, d.report.taken)?;
+    all_skipped(rt, records, d.commands, reasons, clips, count)?;
+    table(rt, rows, run.rows, reasons, d.commands, clock.0, rate)?;
+    last(rt, dry)?;
+    executed(rt, run)
 }

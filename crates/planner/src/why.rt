@@ -175,29 +175,29 @@ fn judge(clips: &[u64; WORDS], i: usize, before: u64) -> Why {
 }
 
 /// Says what is wrong with a line.
-fn say(at: u64, y: Why) {
+fn say(rt: &HostRuntime, at: u64, y: Why) {
     let mut line = [0u8; ROOM];
     let n = said::at(&mut line, said::LIST, at);
     let n = y.words(&mut line, n);
-    said::end(&mut line, n);
+    said::end(rt, &mut line, n);
 }
 
 /// Says why no session has the first n clips.
-pub fn refused(clips: &[u64; WORDS], lines: &[u64; CLIPS], n: usize) {
+pub fn refused(rt: &HostRuntime, clips: &[u64; WORDS], lines: &[u64; CLIPS], n: usize) {
     let mut before: u64 = 0;
     let mut i: usize = 0;
     while i < n {
         let y = judge(clips, i, before);
         if y.row != FINE {
-            say(list::line_of(lines, i), y);
+            say(rt, list::line_of(lines, i), y);
             return;
         }
         before = std::num::wrapping_add_u64(before, list::cell(clips, i, 4));
         i += 1;
     }
     if n == 0 {
-        said::refused(b"clip list: no clip");
+        said::refused(rt, b"clip list: no clip");
         return;
     }
-    said::refused(b"clip list: no session has it");
+    said::refused(rt, b"clip list: no session has it");
 }

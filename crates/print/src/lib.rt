@@ -1,40 +1,28 @@
-//! Writes answers and samples, and gives the bits of a float, for the programs.
+//! Writes answers and samples, and gives the bits of a float, for the programs. What cannot be written is an error.
 #![tactic(auto)]
 
 use clips::LoadAnswer;
 use control::{MetricsAnswer, SnapshotAnswer, StopAnswer};
 use counts::Handle;
-use libc::STDOUT_FILENO;
 use session::{Answer, Refusal};
+use std::io;
 use submission::{ReplayAnswer, SubmitAnswer};
 use transport::TransportState;
 
-pub fn text(s: &[u8]) {
-    io::write_all(STDOUT_FILENO, s);
+pub fn text(rt: &impl Print, s: &[u8]) -> io::Result<()> {
+    rt.write_all(s)
 }
 
-pub fn number(n: u64) {
-    io::print_decimal(STDOUT_FILENO, n);
+pub fn number(rt: &impl Print, n: u64) -> io::Result<()> {
+    rt.print(n)
 }
 
-/// Blanks for the places that so many digits leave, of at most 12.
-fn blanks(digits: usize, places: usize) {
-    let all = [b' '; 12];
+/// A number, right-aligned in so many places, at most 12; a longer one takes more.
+pub fn column(rt: &impl Print, n: u64, places: usize) -> io::Result<()> {
     if places > 12 {
-        return;
+        return number(rt, n);
     }
-    if digits > places {
-        return;
-    }
-    text(&all[digits..places]);
-}
-
-/// A number, right-aligned in so many places; a longer one takes more.
-pub fn column(n: u64, places: usize) {
-    let mut digits = [0u8; 20];
-    let k = io::decimal(n, &mut digits);
-    blanks(k, places);
-    text(&digits[..k]);
+    print!(rt; "{n:>places$}")
 }
 
 /// The bits of a number; every NaN has the same.
@@ -60,134 +48,134 @@ pub fn whole(x: f32) -> u64 {
 }
 
 /// A sample of magnitude at most 16, in full to the 2^24th; anything else as a word.
-pub fn sample(x: f32) {
+pub fn sample(rt: &impl Print, x: f32) -> io::Result<()> {
     if !ramp::is_between(-16.0, 16.0, x) {
-        text(b"loud");
-        return;
+        return text(rt, b"loud");
     }
     if x < 0.0 {
-        text(b"-");
+        text(rt, b"-")?;
     }
-    decimal(whole(x * 16777216.0));
+    decimal(rt, whole(x * 16777216.0))
 }
 
 /// So many 2^24ths, in full.
-fn decimal(parts: u64) {
-    number(parts / 16777216);
-    text(b".");
+fn decimal(rt: &impl Print, parts: u64) -> io::Result<()> {
+    number(rt, parts / 16777216)?;
+    text(rt, b".")?;
     let mut rest = parts % 16777216;
     let mut places: u32 = 24;
     while places > 0 {
         let tenfold = rest * 10;
-        number(tenfold / 16777216);
+        number(rt, tenfold / 16777216)?;
         rest = tenfold % 16777216;
         if rest == 0 {
-            return;
+            return Ok(());
         }
         places -= 1;
     }
+    Ok(())
 }
 
-pub fn state(s: TransportState) {
+pub fn state(rt: &impl Print, s: TransportState) -> io::Result<()> {
     match s {
-        TransportState::Stopped => text(b"Stopped"),
-        TransportState::Playing => text(b"Playing"),
-        TransportState::Paused => text(b"Paused"),
+        TransportState::Stopped => text(rt, b"Stopped"),
+        TransportState::Playing => text(rt, b"Playing"),
+        TransportState::Paused => text(rt, b"Paused"),
     }
 }
 
-pub fn refused(k: Refusal) {
-    text(b"refused ");
-    number(k.number() as u64);
+pub fn refused(rt: &impl Print, k: Refusal) -> io::Result<()> {
+    text(rt, b"refused ")?;
+    number(rt, k.number() as u64)
 }
 
-pub fn handle(h: Handle) {
-    text(b"slot ");
-    number(h.slot as u64);
-    text(b" serial ");
-    number(h.serial as u64);
+pub fn handle(rt: &impl Print, h: Handle) -> io::Result<()> {
+    text(rt, b"slot ")?;
+    number(rt, h.slot as u64)?;
+    text(rt, b" serial ")?;
+    number(rt, h.serial as u64)
 }
 
-pub fn answer(a: Answer) {
+pub fn answer(rt: &impl Print, a: Answer) -> io::Result<()> {
     match a {
-        Answer::Done => text(b"done"),
-        Answer::Refused(k) => refused(k),
+        Answer::Done => text(rt, b"done"),
+        Answer::Refused(k) => refused(rt, k),
     }
 }
 
-pub fn load_answer(a: LoadAnswer) {
+pub fn load_answer(rt: &impl Print, a: LoadAnswer) -> io::Result<()> {
     match a {
-        LoadAnswer::Loaded(h) => handle(h),
-        LoadAnswer::Refused(k) => refused(k),
+        LoadAnswer::Loaded(h) => handle(rt, h),
+        LoadAnswer::Refused(k) => refused(rt, k),
     }
 }
 
-pub fn submit_answer(a: SubmitAnswer) {
+pub fn submit_answer(rt: &impl Print, a: SubmitAnswer) -> io::Result<()> {
     match a {
         SubmitAnswer::Queued(n) => {
-            text(b"number ");
-            number(n);
+            text(rt, b"number ")?;
+            number(rt, n)
         }
-        SubmitAnswer::Refused(k) => refused(k),
+        SubmitAnswer::Refused(k) => refused(rt, k),
     }
 }
 
-pub fn replay_answer(a: ReplayAnswer) {
+pub fn replay_answer(rt: &impl Print, a: ReplayAnswer) -> io::Result<()> {
     match a {
         ReplayAnswer::Replayed(r) => {
-            text(b"taken ");
-            number(r.taken as u64);
-            text(b", queue-full ");
-            number(r.full as u64);
-            text(b", otherwise skipped ");
-            number(r.skipped as u64);
+            text(rt, b"taken ")?;
+            number(rt, r.taken as u64)?;
+            text(rt, b", queue-full ")?;
+            number(rt, r.full as u64)?;
+            text(rt, b", otherwise skipped ")?;
+            number(rt, r.skipped as u64)
         }
-        ReplayAnswer::Refused(k) => refused(k),
+        ReplayAnswer::Refused(k) => refused(rt, k),
     }
 }
 
-pub fn stop_answer(a: StopAnswer) {
+pub fn stop_answer(rt: &impl Print, a: StopAnswer) -> io::Result<()> {
     match a {
         StopAnswer::Copied(n) => {
-            text(b"copied ");
-            number(n as u64);
+            text(rt, b"copied ")?;
+            number(rt, n as u64)
         }
-        StopAnswer::Refused(k) => refused(k),
+        StopAnswer::Refused(k) => refused(rt, k),
     }
 }
 
-pub fn snapshot_answer(a: SnapshotAnswer) {
+pub fn snapshot_answer(rt: &impl Print, a: SnapshotAnswer) -> io::Result<()> {
     match a {
         SnapshotAnswer::Taken(x) => {
             let position = x.position;
             let at = x.state;
-            text(b"position ");
-            number(position.0);
-            text(b", ");
-            state(at);
-            text(b", gain ");
-            sample(x.gain);
+            text(rt, b"position ")?;
+            number(rt, position.0)?;
+            text(rt, b", ")?;
+            state(rt, at)?;
+            text(rt, b", gain ")?;
+            sample(rt, x.gain)
         }
-        SnapshotAnswer::Refused(k) => refused(k),
+        SnapshotAnswer::Refused(k) => refused(rt, k),
     }
 }
 
-pub fn metrics_answer(a: MetricsAnswer) {
+pub fn metrics_answer(rt: &impl Print, a: MetricsAnswer) -> io::Result<()> {
     match a {
         MetricsAnswer::Read(m) => {
-            text(b"rendered ");
-            number(m.rendered);
-            text(b", executed ");
-            number(m.executed);
-            text(b", dropped ");
-            number(m.dropped);
-            text(b", deepest ");
-            number(m.deepest as u64);
-            text(b", swaps ");
-            number(m.swaps);
-            text(b", fired ");
-            number(m.fired);
+            text(rt, b"rendered ")?;
+            number(rt, m.rendered)?;
+            text(rt, b", executed ")?;
+            number(rt, m.executed)?;
+            text(rt, b", dropped ")?;
+            number(rt, m.dropped)?;
+            text(rt, b", deepest ")?;
+            number(rt, m.deepest as u64)?;
+            text(rt, b", swaps ")?;
+            number(rt, m.swaps)?;
+            text(rt, b", fired ")?;
+            number(rt, m.fired)
         }
-        MetricsAnswer::Refused(k) => refused(k),
+        MetricsAnswer::Refused(k) => refused(rt, k),
     }
 }

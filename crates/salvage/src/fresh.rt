@@ -2,30 +2,40 @@
 ghost use Rattle.std.specs.Prelude.{◌≤◌};
 
 use crate::said;
+use std::fs::File;
+use std::io::Write;
+use std::{fs, io};
 
 /// No file has this name; if one has, it is said.
-pub fn is_free(name: &[u8]) -> bool {
-    let fd = os::open_read(name);
-    if fd >= 0 {
-        libc::close(fd);
-        said::wrong(
-            name,
-            b" is there already: the fresh file needs a name of its own",
-        );
-        return false;
+pub fn is_free(rt: &HostRuntime, name: &[u8]) -> bool {
+    match files::open(rt, name) {
+        Ok(_) => {
+            said::wrong(
+                rt,
+                name,
+                b" is there already: the fresh file needs a name of its own",
+            );
+            false
+        }
+        Err(e) => {
+            if e.kind() == io::ErrorKind::NotFound {
+                return true;
+            }
+            said::failed(rt, b"write", name, e);
+            false
+        }
     }
-    if os::errno() == libc::ENOENT {
-        return true;
-    }
-    said::failed(b"write", name);
-    false
 }
 
 /// The fresh file's name with `.part` behind it; where that is too long for a name, more bytes than a name has.
-fn part_name(part: &mut [u8; 4096]) -> usize
+fn part_name(name: &[u8], part: &mut [u8; 4096]) -> usize
     ensures { result ≤ 4096 }
 {
-    let n = os::arg(2, part);
+    let n = name.len();
+    if n > 4096 {
+        return 4096;
+    }
+    part[..n].copy_from_slice(name);
     if n > 4090 {
         return 4096;
     }
@@ -37,49 +47,79 @@ fn part_name(part: &mut [u8; 4096]) -> usize
     n + 5
 }
 
+/// Makes a file anew.
+fn make(rt: &HostRuntime, name: &[u8]) -> io::Result<File> {
+    File::options()
+        .write(true)
+        .create_new(true)
+        .open(rt, files::path(name)?)
+}
+
+/// Writes a file, and has it stored.
+fn store(file: &mut File, bytes: &[u8]) -> io::Result<()> {
+    file.write_all(bytes)?;
+    file.sync_all()
+}
+
+/// Removes a file, if that can be.
+fn remove(rt: &HostRuntime, name: &[u8]) {
+    if let Ok(path) = files::path(name) {
+        let _ = fs::remove_file(rt, path);
+    }
+}
+
 /// Writes a file that is made anew.
-fn fill(name: &[u8], bytes: &[u8]) -> bool {
-    let fd = os::create(name);
-    if fd < 0 {
-        said::failed(b"make", name);
-        return false;
+fn fill(rt: &HostRuntime, name: &[u8], bytes: &[u8]) -> bool {
+    match make(rt, name) {
+        Ok(file) => {
+            let mut file = file;
+            match store(&mut file, bytes) {
+                Ok(()) => true,
+                Err(e) => {
+                    said::failed(rt, b"write", name, e);
+                    remove(rt, name);
+                    false
+                }
+            }
+        }
+        Err(e) => {
+            said::failed(rt, b"make", name, e);
+            false
+        }
     }
-    let written = io::write_all(fd, bytes);
-    let stored = libc::fsync(fd) == 0;
-    if written & stored {
-        libc::close(fd);
-        return true;
-    }
-    said::failed(b"write", name);
-    libc::close(fd);
-    os::unlink(name);
-    false
+}
+
+/// Gives a file another name.
+fn rename(rt: &HostRuntime, from: &[u8], to: &[u8]) -> io::Result<()> {
+    fs::rename(rt, files::path(from)?, files::path(to)?)
 }
 
 /// Writes the fresh file under a part's name, and gives it its own once it is whole.
-fn write_by(name: &[u8], part: &[u8], bytes: &[u8]) -> bool {
-    if !fill(part, bytes) {
+fn write_by(rt: &HostRuntime, name: &[u8], part: &[u8], bytes: &[u8]) -> bool {
+    if !fill(rt, part, bytes) {
         return false;
     }
-    if os::rename(part, name) == 0 {
-        return true;
+    match rename(rt, part, name) {
+        Ok(()) => true,
+        Err(e) => {
+            said::failed(rt, b"write", name, e);
+            remove(rt, part);
+            false
+        }
     }
-    said::failed(b"write", name);
-    os::unlink(part);
-    false
 }
 
 /// The part's name has n bytes.
-fn write_named(name: &[u8], part: &[u8; 4096], n: usize, bytes: &[u8]) -> bool
+fn write_named(rt: &HostRuntime, name: &[u8], part: &[u8; 4096], n: usize, bytes: &[u8]) -> bool
     requires { n ≤ 4096 }
 {
     let whole: &[u8] = part;
-    write_by(name, &whole[..n], bytes)
+    write_by(rt, name, &whole[..n], bytes)
 }
 
 /// Writes the fresh file, or says why it is not written.
-pub fn write(name: &[u8], bytes: &[u8]) -> bool {
-    let mut part = io::buffer();
-    let n = part_name(&mut part);
-    write_named(name, &part, n, bytes)
+pub fn write(rt: &HostRuntime, name: &[u8], bytes: &[u8]) -> bool {
+    let mut part = [b'.'; 4096];
+    let n = part_name(name, &mut part);
+    write_named(rt, name, &part, n, bytes)
 }

@@ -4,6 +4,7 @@ ghost use Rattle.std.specs.Prelude.{◌<◌, ◌≤◌};
 use crate::words;
 use print::{column, text};
 use remains::{Range, Salvaged};
+use std::io;
 
 /// The words of the most ranges that are listed, 65,536.
 pub const WORDS: usize = 196608;
@@ -56,38 +57,36 @@ impl Totals {
 }
 
 /// What was done with a range.
-fn done(file: &[u8], r: Range) {
+fn done(rt: &impl Print, file: &[u8], r: Range) -> io::Result<()> {
     let f = behind(file, r.from);
     if r.what == 1 {
-        text(b"  kept         ");
-        words::command(f);
-        return;
+        text(rt, b"  kept         ")?;
+        return words::command(rt, f);
     }
     if r.what == 2 {
-        text(b"  passed over                          ");
-        words::passed(f);
-        return;
+        text(rt, b"  passed over                          ")?;
+        return words::passed(rt, f);
     }
-    text(b"  dropped");
+    text(rt, b"  dropped")
 }
 
 /// The line of a range.
-fn line(file: &[u8], r: Range) {
-    column(r.from, 7);
-    text(b"  ");
-    column(size(r), 7);
-    done(file, r);
-    text(b"\n");
+fn line(rt: &impl Print, file: &[u8], r: Range) -> io::Result<()> {
+    column(rt, r.from, 7)?;
+    text(rt, b"  ")?;
+    column(rt, size(r), 7)?;
+    done(rt, file, r)?;
+    text(rt, b"\n")
 }
 
 /// How many of a thing there are.
-fn total(thing: &[u8], n: u64) {
-    text(thing);
-    column(n, 7);
+fn total(rt: &impl Print, thing: &[u8], n: u64) -> io::Result<()> {
+    text(rt, thing)?;
+    column(rt, n, 7)
 }
 
 /// A line for each range.
-fn ranges(file: &[u8], list: &[u64; WORDS], n: usize) -> Totals
+fn ranges(rt: &impl Print, file: &[u8], list: &[u64; WORDS], n: usize) -> io::Result<Totals>
     requires { n ≤ 65536 }
 {
     let mut t = Totals {
@@ -97,26 +96,30 @@ fn ranges(file: &[u8], list: &[u64; WORDS], n: usize) -> Totals
     let mut i: usize = 0;
     while i < n {
         let r = range(list, i);
-        line(file, r);
+        line(rt, file, r)?;
         t = t.with(r);
         i += 1;
     }
-    t
+    Ok(t)
 }
 
 /// The list, and behind it the totals.
-pub fn all(file: &[u8], list: &[u64; WORDS], s: Salvaged)
+pub fn all(rt: &impl Print, file: &[u8], list: &[u64; WORDS], s: Salvaged) -> io::Result<()>
     requires { s.ranges ≤ 65536 }
 {
-    text(b"  place    bytes  what           number         frame  field\n");
-    let t = ranges(file, list, s.ranges);
-    total(b"\nbytes of the damaged file ", file.len() as u64);
-    total(b"\ncommands kept             ", s.kept as u64);
-    total(b"\nfields passed over        ", t.passed);
-    total(b"\nbytes dropped             ", t.dropped);
-    total(b"\nbytes of the fresh file   ", s.bytes as u64);
-    text(b"\n");
+    text(
+        rt,
+        b"  place    bytes  what           number         frame  field\n",
+    )?;
+    let t = ranges(rt, file, list, s.ranges)?;
+    total(rt, b"\nbytes of the damaged file ", file.len() as u64)?;
+    total(rt, b"\ncommands kept             ", s.kept as u64)?;
+    total(rt, b"\nfields passed over        ", t.passed)?;
+    total(rt, b"\nbytes dropped             ", t.dropped)?;
+    total(rt, b"\nbytes of the fresh file   ", s.bytes as u64)?;
+    text(rt, b"\n")?;
     if s.kept == 0 {
-        text(b"no command was found in it\n");
+        text(rt, b"no command was found in it\n")?;
     }
+    Ok(())
 }

@@ -15,6 +15,7 @@ mod words;
 
 use list::WORDS;
 use remains::{SalvageAnswer, Salvaged};
+use std::io;
 
 /// The most bytes of a damaged file. The longest tour has 147,466, skipped fields aside.
 const MOST: usize = 1048576;
@@ -22,84 +23,101 @@ const MOST: usize = 1048576;
 /// The most bytes of a fresh file: it has a first and a last field, if the damaged one has neither.
 const OUT: usize = 1048586;
 
+/// The most bytes of a name.
+const NAME: usize = 4096;
+
 /// Writes the fresh file, and lists the ranges.
-fn write(file: &[u8], fresh: &[u8], out: &[u8; OUT], list: &[u64; WORDS], s: Salvaged)
+fn write(
+    rt: &HostRuntime,
+    file: &[u8],
+    fresh: &[u8],
+    out: &[u8; OUT],
+    list: &[u64; WORDS],
+    s: Salvaged,
+) -> io::Result<()>
     requires { (s.bytes ≤ 1048586) × (s.ranges ≤ 65536) }
 {
     let n = s.bytes;
     let whole: &[u8] = out;
-    if fresh::write(fresh, &whole[..n]) {
-        list::all(file, list, s);
+    if fresh::write(rt, fresh, &whole[..n]) {
+        list::all(rt, file, list, s)?;
     }
+    Ok(())
 }
 
 /// What remains of a file, if it can be salvaged.
 fn salvage_to(
+    rt: &HostRuntime,
     damaged: &[u8],
     file: &[u8],
     fresh: &[u8],
     out: &mut [u8; OUT],
     list: &mut [u64; WORDS],
-) {
+) -> io::Result<()> {
     let a = remains::salvage(file, out, list);
     match a {
-        SalvageAnswer::Refused(x) => said::refused(damaged, x),
-        SalvageAnswer::Done(s) => write(file, fresh, out, list, s),
+        SalvageAnswer::Refused(x) => {
+            said::refused(rt, damaged, x);
+            Ok(())
+        },
+        SalvageAnswer::Done(s) => write(rt, file, fresh, out, list, s),
     }
 }
 
 /// Lends output and list.
-fn salvage(damaged: &[u8], file: &[u8], fresh: &[u8]) {
+fn salvage(rt: &HostRuntime, damaged: &[u8], file: &[u8], fresh: &[u8]) -> io::Result<()> {
     let mut out = [0; OUT];
     let mut list = [0; WORDS];
-    salvage_to(damaged, file, fresh, &mut out, &mut list);
+    salvage_to(rt, damaged, file, fresh, &mut out, &mut list)
 }
 
 /// Reads the damaged file.
-fn read(damaged: &[u8], fresh: &[u8], bytes: &mut [u8; MOST]) {
+fn read(rt: &HostRuntime, damaged: &[u8], fresh: &[u8], bytes: &mut [u8; MOST]) -> io::Result<()> {
     let w = files::read(
+        rt,
         b"salvage",
         damaged,
         bytes,
         b" has more than 1,048,576 bytes",
     );
     if !w.read {
-        return;
+        return Ok(());
     }
     let n = w.count;
     if n == 0 {
-        said::wrong(damaged, b" is empty");
-        return;
+        said::wrong(rt, damaged, b" is empty");
+        return Ok(());
     }
     let whole: &[u8] = bytes;
-    salvage(damaged, &whole[..n], fresh);
+    salvage(rt, damaged, &whole[..n], fresh)
 }
 
 /// Both names, where the second is free.
-fn both(damaged: &[u8], fresh: &[u8]) {
+fn both(rt: &HostRuntime, damaged: &[u8], fresh: &[u8]) -> io::Result<()> {
     if (damaged.len() == 0) | (fresh.len() == 0) {
-        said::how();
-        return;
+        said::how(rt);
+        return Ok(());
     }
-    if fresh::is_free(fresh) {
+    if fresh::is_free(rt, fresh) {
         let mut bytes = [0; MOST];
-        read(damaged, fresh, &mut bytes);
+        read(rt, damaged, fresh, &mut bytes)?;
     }
+    Ok(())
 }
 
 /// The second name.
-fn second(damaged: &[u8]) {
-    let mut fresh = io::buffer();
-    let n = os::arg(2, &mut fresh);
-    both(damaged, &fresh[..n]);
+fn second(rt: &HostRuntime, damaged: &[u8]) -> io::Result<()> {
+    let mut fresh = [0; NAME];
+    let n = files::argument(rt, 2, &mut fresh);
+    both(rt, damaged, &fresh[..n])
 }
 
-fn main() {
-    if os::arg_count() != 3 {
-        said::how();
-        return;
+fn main(rt: HostRuntime) -> io::Result<()> {
+    if !files::is_given(&rt, 2) | files::is_given(&rt, 3) {
+        said::how(&rt);
+        return Ok(());
     }
-    let mut damaged = io::buffer();
-    let n = os::arg(1, &mut damaged);
-    second(&damaged[..n]);
+    let mut damaged = [0; NAME];
+    let n = files::argument(&rt, 1, &mut damaged);
+    second(&rt, &damaged[..n])
 }

@@ -3,6 +3,7 @@ ghost use Rattle.std.specs.Prelude.{◌+◌, ◌^◌, ◌<◌};
 
 use fields::Part;
 use print::{column, number, text};
+use std::io;
 
 // ---- gains
 
@@ -21,102 +22,100 @@ fn thousandths(magnitude: u64) -> u64 {
 }
 
 /// So many thousandths.
-fn decimal(n: u64) {
-    number(n / 1000);
-    text(b".");
-    number(n / 100 % 10);
-    number(n / 10 % 10);
-    number(n % 10);
-    text(b" ");
+fn decimal(rt: &impl Print, n: u64) -> io::Result<()> {
+    number(rt, n / 1000)?;
+    text(rt, b".")?;
+    number(rt, n / 100 % 10)?;
+    number(rt, n / 10 % 10)?;
+    number(rt, n % 10)?;
+    text(rt, b" ")
 }
 
 /// A gain of a magnitude below 1,024.
-fn level(bits: u64) {
+fn level(rt: &impl Print, bits: u64) -> io::Result<()> {
     let magnitude = bits % 2147483648;
     if magnitude >= 0x4480_0000 {
-        return;
+        return Ok(());
     }
     if bits != magnitude {
-        text(b"-");
+        text(rt, b"-")?;
     }
-    decimal(thousandths(magnitude));
+    decimal(rt, thousandths(magnitude))
 }
 
 /// What a gain is about, and its bits.
-fn gain(bits: u64) {
-    level(bits);
-    text(b"(0x");
-    io::print_hex(libc::STDOUT_FILENO, bits, 8);
-    text(b")");
+fn gain(rt: &impl Print, bits: u64) -> io::Result<()> {
+    level(rt, bits)?;
+    text(rt, b"(0x")?;
+    print!(rt; "{bits:08x}")?;
+    text(rt, b")")
 }
 
 // ---- commands
 
 /// A kind's name, and what leads to its first part.
-fn name(kind: u64) {
+fn name(rt: &impl Print, kind: u64) -> io::Result<()> {
     match kind {
-        1 => text(b"Play"),
-        2 => text(b"Pause"),
-        3 => text(b"Stop"),
-        4 => text(b"Seek to "),
-        5 => text(b"Transition to "),
-        6 => text(b"Loop from "),
-        7 => text(b"ClearLoop"),
-        8 => text(b"Gain "),
-        9 => text(b"Swap to clip "),
-        _ => text(b"Stinger of clip "),
+        1 => text(rt, b"Play"),
+        2 => text(rt, b"Pause"),
+        3 => text(rt, b"Stop"),
+        4 => text(rt, b"Seek to "),
+        5 => text(rt, b"Transition to "),
+        6 => text(rt, b"Loop from "),
+        7 => text(rt, b"ClearLoop"),
+        8 => text(rt, b"Gain "),
+        9 => text(rt, b"Swap to clip "),
+        _ => text(rt, b"Stinger of clip "),
     }
 }
 
 /// What leads to a kind's second part.
-fn between(kind: u64) {
+fn between(rt: &impl Print, kind: u64) -> io::Result<()> {
     match kind {
-        6 => text(b" to "),
-        10 => text(b", gain "),
-        _ => {}
+        6 => text(rt, b" to "),
+        10 => text(rt, b", gain "),
+        _ => Ok(()),
     }
 }
 
 /// What stands at a place of a field.
-fn part(p: Part, f: &[u8], i: usize)
+fn part(rt: &impl Print, p: Part, f: &[u8], i: usize) -> io::Result<()>
     requires { i + 7 < 2 ^ 64 }
 {
     match p {
-        Part::Nothing => {}
-        Part::Frame => number(fields::eight(f, i)),
-        Part::Gain => gain(fields::four(f, i) as u64),
-        Part::Clip => number(fields::byte(f, i) as u64),
+        Part::Nothing => Ok(()),
+        Part::Frame => number(rt, fields::eight(f, i)),
+        Part::Gain => gain(rt, fields::four(f, i) as u64),
+        Part::Clip => number(rt, fields::byte(f, i) as u64),
     }
 }
 
 /// A command's number, its frame, its kind and what it carries.
-pub fn command(f: &[u8]) {
+pub fn command(rt: &impl Print, f: &[u8]) -> io::Result<()> {
     let kind = fields::byte(f, 19) as u64;
     let first = fields::first_part(kind);
     let second = fields::second_part(kind);
     let behind = 20 + (first.size() as usize);
-    column(fields::eight(f, 11), 8);
-    text(b"  ");
-    column(fields::eight(f, 3), 12);
-    text(b"  ");
-    name(kind);
-    part(first, f, 20);
-    between(kind);
-    part(second, f, behind);
+    column(rt, fields::eight(f, 11), 8)?;
+    text(rt, b"  ")?;
+    column(rt, fields::eight(f, 3), 12)?;
+    text(rt, b"  ")?;
+    name(rt, kind)?;
+    part(rt, first, f, 20)?;
+    between(rt, kind)?;
+    part(rt, second, f, behind)
 }
 
 /// Which field it is that is passed over.
-pub fn passed(f: &[u8]) {
+pub fn passed(rt: &impl Print, f: &[u8]) -> io::Result<()> {
     let tag = fields::byte(f, 0);
     if tag == 1 {
-        text(b"first field");
-        return;
+        return text(rt, b"first field");
     }
     if tag == 3 {
-        text(b"last field, count ");
-        number(fields::two(f, 3) as u64);
-        return;
+        text(rt, b"last field, count ")?;
+        return number(rt, fields::two(f, 3) as u64);
     }
-    text(b"skipped field, tag ");
-    number(tag as u64);
+    text(rt, b"skipped field, tag ")?;
+    number(rt, tag as u64)
 }

@@ -8,191 +8,191 @@ use counts::Handle;
 use print::{column, number, text};
 use session::{Answer, Session};
 use stage::{HOUSE, Tail};
+use std::io;
 use submission::ReplayAnswer;
 use timeline::Submission;
 use transport::{At, TransportState};
 
 /// A clip's name, four letters long.
-pub fn name(h: Handle) {
+pub fn name(rt: &impl Print, h: Handle) -> io::Result<()> {
     let serial = h.serial;
     match serial {
-        1 => text(b"hall"),
-        2 => text(b"nave"),
-        _ => text(b"bell"),
+        1 => text(rt, b"hall"),
+        2 => text(rt, b"nave"),
+        _ => text(rt, b"bell"),
     }
 }
 
 // ---- what the guide does, each on a line that it begins
 
 /// The mode of a visit.
-pub fn mode(m: u32) {
+pub fn mode(rt: &impl Print, m: u32) -> io::Result<()> {
     if m == HOUSE {
-        text(b"\n> enter in house mode");
-        return;
+        return text(rt, b"\n> enter in house mode");
     }
-    text(b"\n> enter as tono");
+    text(rt, b"\n> enter as tono")
 }
 
-pub fn loaded(a: LoadAnswer) {
+pub fn loaded(rt: &impl Print, a: LoadAnswer) -> io::Result<()> {
     match a {
-        LoadAnswer::Loaded(h) => loaded_as(h),
-        LoadAnswer::Refused(k) => print::refused(k),
+        LoadAnswer::Loaded(h) => loaded_as(rt, h),
+        LoadAnswer::Refused(k) => print::refused(rt, k),
     }
 }
 
-fn loaded_as(h: Handle) {
-    text(b"\n> load the ");
-    name(h);
-    text(b": ");
-    print::handle(h);
+fn loaded_as(rt: &impl Print, h: Handle) -> io::Result<()> {
+    text(rt, b"\n> load the ")?;
+    name(rt, h)?;
+    text(rt, b": ")?;
+    print::handle(rt, h)
 }
 
-pub fn started(a: Answer) {
-    text(b"\n> start the capture: ");
-    print::answer(a);
+pub fn started(rt: &impl Print, a: Answer) -> io::Result<()> {
+    text(rt, b"\n> start the capture: ")?;
+    print::answer(rt, a)
 }
 
-pub fn stopped(a: StopAnswer) {
-    text(b"\n> stop the capture: ");
-    print::stop_answer(a);
+pub fn stopped(rt: &impl Print, a: StopAnswer) -> io::Result<()> {
+    text(rt, b"\n> stop the capture: ")?;
+    print::stop_answer(rt, a)
 }
 
-pub fn replayed(a: ReplayAnswer) {
-    text(b"\n> replay what was captured: ");
-    print::replay_answer(a);
+pub fn replayed(rt: &impl Print, a: ReplayAnswer) -> io::Result<()> {
+    text(rt, b"\n> replay what was captured: ")?;
+    print::replay_answer(rt, a)
 }
 
-pub fn snapshot(a: SnapshotAnswer) {
-    text(b"\n> take a snapshot: ");
-    print::snapshot_answer(a);
+pub fn snapshot(rt: &impl Print, a: SnapshotAnswer) -> io::Result<()> {
+    text(rt, b"\n> take a snapshot: ")?;
+    print::snapshot_answer(rt, a)
 }
 
-pub fn applied(a: Answer) {
-    text(b"\n> apply the snapshot: ");
-    print::answer(a);
+pub fn applied(rt: &impl Print, a: Answer) -> io::Result<()> {
+    text(rt, b"\n> apply the snapshot: ")?;
+    print::answer(rt, a)
 }
 
 /// What a cue asks for.
-pub fn cue(c: Cue) {
+pub fn cue(rt: &impl Print, c: Cue) -> io::Result<()> {
     match c {
-        Cue::Blocks(_) => {}
-        Cue::Submit(x, at) => submission(x, at),
-        Cue::Retire(h) => retire(h),
-        Cue::Rest => {}
+        Cue::Blocks(_) => Ok(()),
+        Cue::Submit(x, at) => submission(rt, x, at),
+        Cue::Retire(h) => retire(rt, h),
+        Cue::Rest => Ok(()),
     }
 }
 
-fn submission(x: Submission, at: At) {
-    text(b"\n> ");
-    command(x);
-    time(at);
+fn submission(rt: &impl Print, x: Submission, at: At) -> io::Result<()> {
+    text(rt, b"\n> ")?;
+    command(rt, x)?;
+    time(rt, at)
 }
 
-fn retire(h: Handle) {
-    text(b"\n> retire the ");
-    name(h);
-    text(b": ");
+fn retire(rt: &impl Print, h: Handle) -> io::Result<()> {
+    text(rt, b"\n> retire the ")?;
+    name(rt, h)?;
+    text(rt, b": ")
 }
 
-fn command(x: Submission) {
+fn command(rt: &impl Print, x: Submission) -> io::Result<()> {
     match x {
-        Submission::Play => text(b"play"),
-        Submission::Pause => text(b"pause"),
-        Submission::Stop => text(b"stop"),
-        Submission::Seek(f) => counted(b"seek ", f.0),
-        Submission::Loop(s, e) => looped(s.0, e.0),
-        Submission::ClearLoop => text(b"clear the loop"),
-        Submission::Gain(g) => gain(g),
-        Submission::Swap(h) => swap(h),
-        Submission::Stinger(h, g) => ring(h, g),
+        Submission::Play => text(rt, b"play"),
+        Submission::Pause => text(rt, b"pause"),
+        Submission::Stop => text(rt, b"stop"),
+        Submission::Seek(f) => counted(rt, b"seek ", f.0),
+        Submission::Loop(s, e) => looped(rt, s.0, e.0),
+        Submission::ClearLoop => text(rt, b"clear the loop"),
+        Submission::Gain(g) => gain(rt, g),
+        Submission::Swap(h) => swap(rt, h),
+        Submission::Stinger(h, g) => ring(rt, h, g),
     }
 }
 
-fn looped(start: u64, end: u64) {
-    counted(b"loop ", start);
-    counted(b"..", end);
+fn looped(rt: &impl Print, start: u64, end: u64) -> io::Result<()> {
+    counted(rt, b"loop ", start)?;
+    counted(rt, b"..", end)
 }
 
-fn gain(g: f32) {
-    text(b"gain ");
-    print::sample(g);
+fn gain(rt: &impl Print, g: f32) -> io::Result<()> {
+    text(rt, b"gain ")?;
+    print::sample(rt, g)
 }
 
-fn swap(h: Handle) {
-    text(b"swap to the ");
-    name(h);
+fn swap(rt: &impl Print, h: Handle) -> io::Result<()> {
+    text(rt, b"swap to the ")?;
+    name(rt, h)
 }
 
-fn ring(h: Handle, g: f32) {
-    text(b"ring the ");
-    name(h);
-    text(b" at ");
-    gain(g);
+fn ring(rt: &impl Print, h: Handle, g: f32) -> io::Result<()> {
+    text(rt, b"ring the ")?;
+    name(rt, h)?;
+    text(rt, b" at ")?;
+    gain(rt, g)
 }
 
-fn time(at: At) {
+fn time(rt: &impl Print, at: At) -> io::Result<()> {
     match at {
-        At::Immediate => text(b" at once"),
-        At::Frame(f) => counted(b" at clock ", f.0),
-        At::Song(f) => counted(b" at song frame ", f.0),
+        At::Immediate => text(rt, b" at once"),
+        At::Frame(f) => counted(rt, b" at clock ", f.0),
+        At::Song(f) => counted(rt, b" at song frame ", f.0),
     }
 }
 
 /// The clock frame that a time comes to.
-pub fn due(s: Session, at: At) {
+pub fn due(rt: &impl Print, s: Session, at: At) -> io::Result<()> {
     let stage = s.stage;
     let playhead = stage.playhead;
     let transport = playhead.transport;
     let clock = transport.deadline(stage.clock, at);
-    counted(b", due at ", clock.0);
-    text(b": ");
+    counted(rt, b", due at ", clock.0)?;
+    text(rt, b": ")
 }
 
-fn counted(what: &[u8], n: u64) {
-    text(what);
-    number(n);
+fn counted(rt: &impl Print, what: &[u8], n: u64) -> io::Result<()> {
+    text(rt, what)?;
+    number(rt, n)
 }
 
 // ---- a line for each block
 
-fn state(s: TransportState) {
+fn state(rt: &impl Print, s: TransportState) -> io::Result<()> {
     match s {
-        TransportState::Stopped => text(b"  stopped  "),
-        TransportState::Playing => text(b"  playing  "),
-        TransportState::Paused => text(b"  paused   "),
+        TransportState::Stopped => text(rt, b"  stopped  "),
+        TransportState::Playing => text(rt, b"  playing  "),
+        TransportState::Paused => text(rt, b"  paused   "),
     }
 }
 
-fn tail(t: Tail) {
+fn tail(rt: &impl Print, t: Tail) -> io::Result<()> {
     match t {
-        Tail::None => text(b"  none"),
-        Tail::Sounding(h, _, _) => fading(h),
+        Tail::None => text(rt, b"  none"),
+        Tail::Sounding(h, _, _) => fading(rt, h),
     }
 }
 
-fn fading(h: Handle) {
-    text(b"  ");
-    name(h);
+fn fading(rt: &impl Print, h: Handle) -> io::Result<()> {
+    text(rt, b"  ")?;
+    name(rt, h)
 }
 
 /// Clock, position, laps and state.
-fn stands(s: Session) {
-    text(b"\n");
-    column(s.clock().0, 6);
-    column(s.position().0, 6);
-    column(s.laps(), 6);
-    state(s.state());
+fn stands(rt: &impl Print, s: Session) -> io::Result<()> {
+    text(rt, b"\n")?;
+    column(rt, s.clock().0, 6)?;
+    column(rt, s.position().0, 6)?;
+    column(rt, s.laps(), 6)?;
+    state(rt, s.state())
 }
 
 /// The song, the tail and the voices.
-fn sounding(s: Session) {
-    name(s.song());
+fn sounding(rt: &impl Print, s: Session) -> io::Result<()> {
+    name(rt, s.song())?;
     let stage = s.stage;
     let sound = stage.sound;
     let fade = sound.fade;
     let t = fade.tail;
-    tail(t);
-    column(sound.voices.count as u64, 6);
+    tail(rt, t)?;
+    column(rt, sound.voices.count as u64, 6)
 }
 
 fn magnitude(x: f32) -> f32 {
@@ -219,38 +219,45 @@ fn peak(out: &[f32; 512], side: usize) -> u64
 }
 
 /// A bar of a mark for each started tenth, at most 12, right-aligned where blank is a space.
-fn bar(peak: u64, blank: &[u8]) {
+fn bar(rt: &impl Print, peak: u64, blank: &[u8]) -> io::Result<()> {
     let mut tenth: u64 = 12;
     while tenth > 0 {
         tenth -= 1;
         if peak > tenth * 100 {
-            text(b"#");
+            text(rt, b"#")?;
         } else {
-            text(blank);
+            text(rt, blank)?;
         }
     }
+    Ok(())
 }
 
 /// The peaks of both sides.
-fn meter(out: &[f32; 512]) {
+fn meter(rt: &impl Print, out: &[f32; 512]) -> io::Result<()> {
     let left = peak(out, 0);
     let right = peak(out, 1);
-    column(left, 6);
-    column(right, 6);
-    bar(left, b" ");
-    text(b"|");
-    bar(right, b"");
+    column(rt, left, 6)?;
+    column(rt, right, 6)?;
+    bar(rt, left, b" ")?;
+    text(rt, b"|")?;
+    bar(rt, right, b"")
 }
 
 /// The names of the columns.
-pub fn heading() {
-    text(b"a tour of two rooms at 8,000 frames a second, peaks in thousandths\n");
-    text(b" clock  song  laps  state    room  tail voices  left right");
+pub fn heading(rt: &impl Print) -> io::Result<()> {
+    text(
+        rt,
+        b"a tour of two rooms at 8,000 frames a second, peaks in thousandths\n",
+    )?;
+    text(
+        rt,
+        b" clock  song  laps  state    room  tail voices  left right",
+    )
 }
 
 /// Where a session stands after a block, and what it gave.
-pub fn line(s: Session, out: &[f32; 512]) {
-    stands(s);
-    sounding(s);
-    meter(out);
+pub fn line(rt: &impl Print, s: Session, out: &[f32; 512]) -> io::Result<()> {
+    stands(rt, s)?;
+    sounding(rt, s)?;
+    meter(rt, out)
 }
