@@ -109,7 +109,7 @@ pub open_starts : (x : Settings) (q c : List ℕ) (pool samples : List Float) (r
     → Starts x.mode (line_of 0 (first_clip samples rate extent)) (line_of 0 (first_clip samples rate extent) ∷ []) (open_of x q c pool samples rate extent).0.session
 unfolding no_voices
 open_starts x q c pool samples rate extent fine room =
-    rw (opened.open_done x q c pool samples rate extent fine)
+    rw (opened.open_done_law x q c pool samples rate extent fine)
     (record {
       list =
           record {
@@ -131,7 +131,7 @@ pub load_starts : (s : Session) (q c : List ℕ) (pool samples : List Float) (ki
     → (m : ℕ) (e : Entry) (l : List Entry) → Starts m e l s
     → Starts m e (line_of (free_slot s.bank.used) (clip_for s samples kind rate) ∷ l) (load_of s q c pool samples kind rate).0.session
 load_starts s q c pool samples kind rate fine t m e l x =
-    rw (loaded.load_done s q c pool samples kind rate fine)
+    rw (loaded.load_done_law s q c pool samples kind rate fine)
     (record {
       list =
           record {

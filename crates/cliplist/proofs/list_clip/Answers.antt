@@ -1,0 +1,20 @@
+-- `list_clip` meets its contract.
+use mathlib.Core.Path.{sym, ◌∙◌}
+use native.Mathlib.Omega.{arith}
+use Rattle.cliplist.specs.Words.{clip_more}
+use Rattle.cliplist.proofs.Lines.{fitting}
+use Rattle.cliplist.proofs.list_clip.Goals as goal
+
+pub overflow_add-total : goal.overflow_add-total
+overflow_add-total c = let a = c.args in let f = (fitting a.x a.e (sym c.clip_fits.ensures ∙ c.if-clip_fits.true)).held in omega (arith, f)
+
+pub listed_in-bank-requires : goal.listed_in-bank-requires
+listed_in-bank-requires c = let a = c.args in let f = fitting a.x a.e (sym c.clip_fits.ensures ∙ c.if-clip_fits.true) in (f.among, f.free)
+
+pub returns-then-clip_fits : goal.returns-then-clip_fits
+unfolding clip_more
+returns-then-clip_fits c = rw (sym c.clip_fits.ensures ∙ c.if-clip_fits.true, c.listed_in-bank.ensures)
+
+pub returns : goal.returns
+unfolding clip_more
+returns c = rw (sym c.clip_fits.ensures ∙ c.if-clip_fits.false)
