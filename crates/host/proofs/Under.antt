@@ -1,6 +1,6 @@
 -- Each call under the conversion: what a host reads is what the call says, and the session and stores that it leaves. Assumes nothing.
 use mathlib.Core.Path.{◌≡◌, refl, sym, ap, ◌∙◌}
-use mathlib.Core.Bool.{Bool, true, false, ◌&&◌, cond}
+use mathlib.Core.Bool.{Bool, true, false, ◌&&◌}
 use mathlib.Core.List.{List}
 use Prim.Native.Nat.{ℕ, ◌≤◌}
 use native.Mathlib.Omega.{arith}
@@ -18,7 +18,7 @@ use Rattle.session.specs.declared.Weighed.{Weighed}
 use Rattle.session.specs.declared.Answered.{Answered}
 use Rattle.session.specs.Refusal.{number_of, unless}
 use Rattle.session.specs.WellFormed.{weigh_only}
-use Rattle.session.specs.Answer.{Says, refused, gives, says}
+use Rattle.session.specs.Answer.{Says, refused, says}
 use Rattle.session.proofs.Refuse.{number_some, numbered, other, refused_or_done}
 use Rattle.block.specs.declared.BlockAnswered.{BlockAnswered}
 use Rattle.block.specs.Block.{says_block, weigh_block, block_of}

@@ -1224,11 +1224,7 @@ pub fn threshreed_read_tour(clips: &[u64; 32], file: &[u8], list: &mut [u64]) ->
 }
 
 /// Writes a list's records to a tour's file, at the output's front.
-pub fn threshreed_write_tour(
-    clips: &[u64; 32],
-    records: &[u64],
-    out: &mut [u8],
-) -> HostTour
+pub fn threshreed_write_tour(clips: &[u64; 32], records: &[u64], out: &mut [u8]) -> HostTour
     ensures { ◌≡◌ {A = HostTour × List ℕ} (result, out.new) (write_tour_host clips.now records.now out.old) }
 {
     let a = tourfile::write_tour(clips, records, out);
@@ -1244,11 +1240,7 @@ pub fn threshreed_salvage(file: &[u8], out: &mut [u8], list: &mut [u64]) -> Host
 }
 
 /// Starts capture, empty.
-pub fn threshreed_start_capture(
-    h: HostSession,
-    queue: &[u64],
-    capture: &[u64],
-) -> HostAnswered
+pub fn threshreed_start_capture(h: HostSession, queue: &[u64], capture: &[u64]) -> HostAnswered
     ensures { result ≡ start_capture_host h queue.now capture.now }
 {
     let first = weigh(h, queue, capture, true);

@@ -1,0 +1,5 @@
+-- `block_refused` meets its contract.
+use Rattle.host.proofs.block_refused.Goals as goal
+
+pub returns : goal.returns
+returns c = simp c.turned.ensures

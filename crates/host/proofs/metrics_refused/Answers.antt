@@ -1,0 +1,5 @@
+-- `metrics_refused` meets its contract.
+use Rattle.host.proofs.metrics_refused.Goals as goal
+
+pub returns : goal.returns
+returns c = simp (c.turned.ensures, c.no_metrics.ensures)

@@ -1,0 +1,5 @@
+-- `refused` meets its contract.
+use Rattle.host.proofs.refused.Goals as goal
+
+pub returns : goal.returns
+returns c = simp c.turned.ensures

@@ -1,0 +1,5 @@
+-- `replay_refused` meets its contract.
+use Rattle.host.proofs.replay_refused.Goals as goal
+
+pub returns : goal.returns
+returns c = simp c.turned.ensures

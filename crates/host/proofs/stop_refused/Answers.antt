@@ -1,0 +1,5 @@
+-- `stop_refused` meets its contract.
+use Rattle.host.proofs.stop_refused.Goals as goal
+
+pub returns : goal.returns
+returns c = simp c.turned.ensures

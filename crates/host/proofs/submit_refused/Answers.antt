@@ -1,0 +1,5 @@
+-- `submit_refused` meets its contract.
+use Rattle.host.proofs.submit_refused.Goals as goal
+
+pub returns : goal.returns
+returns c = simp c.turned.ensures

@@ -1,0 +1,14 @@
+-- `threshreed_retire` meets its contract: weighed, then called.
+use Rattle.host.specs.Calls.{retire_host}
+use Rattle.host.proofs.Weighed.{call_refused, call_done}
+use Rattle.host.proofs.threshreed_retire.Goals as goal
+
+pub returns-then-first-ne0 : goal.returns-then-first-ne0
+unfolding retire_host
+returns-then-first-ne0 c = call_refused _ _ _ _ c.weigh-first.ensures c.if-first-ne0.true (rw c.refused.ensures)
+
+pub returns : goal.returns
+unfolding retire_host
+returns c =
+    call_done _ _ _ _ c.weigh-first.ensures c.if-first-ne0.false
+    (rw (c.answered.ensures, ← c.session_of-s.ensures, ← c.retire-r.ensures))
