@@ -13,7 +13,7 @@ use Rattle.stage.specs.declared.Settings.{Settings}
 use Rattle.stage.specs.declared.Playhead.{Playhead}
 use Rattle.stage.specs.Mode.{is_house}
 use Rattle.stage.specs.Playhead.{playhead, playhead_by, moved_of}
-use Rattle.stage.specs.Machine.{Told, told_of}
+use Rattle.leaps.specs.Laps.{Lapped, lapped_of}
 use Rattle.leaps.specs.Dry.{blind}
 
 -- a command does the same,
@@ -36,16 +36,13 @@ blind_by extent (Command.Swap h) p = refl
 blind_by extent (Command.Stinger h g) p = refl
 
 -- and tells the same
-pub blind_told : (clock : ClockFrame) (extent : ℕ) (d : QueueRecord) (p : Playhead) → told_of clock extent d (blind p) ≡ told_of clock extent d p
+pub blind_told : (clock : ClockFrame) (extent : ℕ) (d : QueueRecord) (p : Playhead) → lapped_of clock extent d (blind p) ≡ lapped_of clock extent d p
 blind_told clock extent d p = ap says (blind_by extent d.command p)
   where
-    says : Playhead → Told
+    says : Playhead → Lapped
     says y =
         record {
-          command = d;
-          clock = clock;
-          before = p.transport.position;
-          after = y.transport.position;
+          told = record { command = d; clock = clock; before = p.transport.position; after = y.transport.position };
           laps_before = p.transport.laps;
           laps_after = y.transport.laps;
         }

@@ -21,21 +21,22 @@ use Rattle.bank.specs.Slots.{claim_ok, extent_of}
 use Rattle.bank.specs.Sample.{frames_of, is_odd}
 use Rattle.bank.specs.Recording.{view_of}
 use Rattle.bank.proofs.Claims.{song_has}
-use Rattle.stage.specs.Machine.{machine_of}
 use Rattle.session.specs.declared.Session.{Session}
 use Rattle.session.proofs.Parts.{Parts, parts, whole}
 use Rattle.block.specs.Block.{ran_of, block_done, block_of, blocks_of, joined}
 use Rattle.block.proofs.Weigh.{Accepted, block_done_law}
-use Rattle.block.proofs.Cut.{frames_joined, joined_even, ran_cut, front_accepted, rest_accepted, rest_places, block_cuts}
+use Rattle.block.proofs.Cut.{frames_joined, joined_even, front_accepted, rest_accepted, rest_places, block_cuts}
 use Rattle.submission.specs.declared.ReplayAnswer.{ReplayAnswer}
 use Rattle.submission.specs.Replay.{Replaying, replayed}
 use Rattle.submission.proofs.Kept.{replayed_well}
 use Rattle.submission.proofs.Leaves.{heart, replayed_leaves}
 use Rattle.submission.proofs.Reported.{replay_done_law}
 use Rattle.leaps.specs.declared.Dry.{Dry}
+use Rattle.leaps.specs.Laps.{lapped_machine, lapped_ran}
 use Rattle.leaps.specs.Dry.{dry_of, dry_machine, lengths_in, dry_ran, dried}
 use Rattle.leaps.specs.Same.{SameClips, Alike}
 use Rattle.leaps.specs.Equal.{executed_by, Full, Comes, DryRun}
+use Rattle.leaps.proofs.Laps.{lapped_at, lapped_cut}
 use Rattle.leaps.proofs.Part.{Lasts, block_dried}
 use Rattle.leaps.proofs.Replay.{Both, replayed_both}
 
@@ -49,8 +50,8 @@ module _ (b k : Bank) (clips : SameClips b k) (pool : List Float) where
 
 -- ONE BLOCK of two sessions that are alike
 pub alike_ran : (k : ℕ) (s : Session) (q : List ℕ) (t : Session) (p d : List ℕ) → Alike k s q t p → Parts t p d → (pool : List Float) (n : ℕ)
-    → dry_ran s q n ≡ dried (ran_of t p pool n)
-unfolding dry_ran ran_of
+    → dry_ran s q n ≡ dried (lapped_ran t p pool n)
+unfolding dry_ran lapped_ran
 alike_ran k s q t p d l a pool n =
     ap (λ (x : Dry). block (dry_machine (lengths_in s.bank)) n (stand x (queue q s.queued))) l.stands
     ∙ ap (λ (x : List QueueRecord). block (dry_machine (lengths_in s.bank)) n (stand (dry_of t.stage) x)) l.waiting
@@ -65,13 +66,13 @@ alike_ran k s q t p d l a pool n =
 
 -- what blocks execute is what one block of all their frames executes
 executed_joined : (t : Session) (p d : List ℕ) (pool : List Float) (outs : List (List Float)) → length t.stage.sound.voices.table ≡ 16
-    → Accepted t p d pool (joined outs) → Each (λ out. is_odd out ≡ false) outs → executed_by t p d pool outs ≡ (ran_of t p pool (frames_of (joined outs))).told
-unfolding ran_of
-executed_joined t p d pool [] places a e = rw (block_none (machine_of t.settings (view_of pool t.bank)) (stand t.stage (queue p t.queued)))
+    → Accepted t p d pool (joined outs) → Each (λ out. is_odd out ≡ false) outs → executed_by t p d pool outs ≡ (lapped_ran t p pool (frames_of (joined outs))).told
+unfolding lapped_ran
+executed_joined t p d pool [] places a e = rw (block_none (lapped_machine t.settings (view_of pool t.bank)) (stand t.stage (queue p t.queued)))
 executed_joined t p d pool (x ∷ outs) places a e =
     let w = block_done_law t p d pool x (front_accepted t p d pool x (joined outs) places a e.0) in
     let ih = executed_joined (block_of t p d pool x).0.session p d pool outs (rest_places t p d pool x (joined outs) places a e.0) (rest_accepted t p d pool x (joined outs) places a e.0) e.1 in
-    rw (frames_joined x (joined outs) e.0, ran_cut t p pool (frames_of x) (frames_of (joined outs)), ih, w)
+    rw (frames_joined x (joined outs) e.0, lapped_cut t p pool (frames_of x) (frames_of (joined outs)), ih, w)
 
 -- ANY BLOCKS of two sessions that are alike
 pub alike_comes : (k : ℕ) (s : Session) (q : List ℕ) (t : Session) (p d : List ℕ) (pool : List Float) (outs : List (List Float)) → Alike k s q t p → Full t p d pool
@@ -79,10 +80,10 @@ pub alike_comes : (k : ℕ) (s : Session) (q : List ℕ) (t : Session) (p d : Li
 alike_comes k s q t p d pool outs l f e clock =
     let n : ℕ = frames_of (joined outs) in
     let a : Accepted t p d pool (joined outs) = record { formed = f.formed; lent = f.pooled; even = joined_even outs e; clock = clock } in
-    let same : dry_ran s q n ≡ dried (ran_of t p pool n) = alike_ran k s q t p d l (parts t p d f.formed) pool n in
+    let same : dry_ran s q n ≡ dried (lapped_ran t p pool n) = alike_ran k s q t p d l (parts t p d f.formed) pool n in
     let ends : (blocks_of t p d pool outs).0 ≡ (block_done t (ran_of t p pool n)).0.session =
     ap (λ z. z.0) (sym (block_cuts t p d pool outs f.voices a e)) ∙ ap (λ z. z.0.session) (block_done_law t p d pool (joined outs) a) in
-    record { stands = rw (same, ends); queued = rw (same, ends); executed = rw same (sym (executed_joined t p d pool outs f.voices a e)) }
+    record { stands = rw (same, ends, lapped_at t p pool n); queued = rw (same, ends, lapped_at t p pool n); executed = rw same (sym (executed_joined t p d pool outs f.voices a e)) }
 
 -- ---- after a replay
 

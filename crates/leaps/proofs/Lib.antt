@@ -1,3 +1,4 @@
+pub mod Laps
 pub mod Cursor
 pub mod Part
 pub mod Replay

@@ -15,10 +15,10 @@ use Rattle.bank.specs.Recording.{View}
 use Rattle.stage.specs.declared.Settings.{Settings}
 use Rattle.stage.specs.declared.Playhead.{Playhead}
 use Rattle.stage.specs.declared.Stage.{Stage}
-use Rattle.stage.specs.Playhead.{playhead, playhead_by, moved_of}
+use Rattle.stage.specs.Playhead.{playhead_by, moved_of}
 use Rattle.stage.specs.Stage.{frame_of, execute_of}
-use Rattle.stage.specs.Machine.{machine_of}
-use Rattle.stage.proofs.Clock.{clocked}
+use Rattle.leaps.specs.Laps.{lapped_machine}
+use Rattle.leaps.proofs.Laps.{lapped_clocked}
 use Rattle.leaps.proofs.Cursor.{blind_by, blind_told, blind_moved}
 use Rattle.leaps.specs.Dry.{dry_at, dry_of, Lengths, dry_next, dry_exec, dry_machine, dried}
 
@@ -62,7 +62,7 @@ module _ (x : Settings) (view : View) (long : Lengths) where
   Same d d' = (d' ≡ d) × Bringing d
 
   -- the dry run does without the sound what the stage does
-  maps : Maps dry_of (λ a. tt) (λ e. e) Plays Same (machine_of x view) (dry_machine long)
+  maps : Maps dry_of (λ a. tt) (λ e. e) Plays Same (lapped_machine x view) (dry_machine long)
   unfolding frame_of execute_of dry_next dry_exec
   maps =
       record {
@@ -77,8 +77,8 @@ module _ (x : Settings) (view : View) (long : Lengths) where
 
   -- ONE BLOCK: the dry run of it is what the stage did, without the sound
   pub block_dried : (n : ℕ) (y : At Stage QueueRecord) → Plays y.core → Each Bringing y.queue
-      → block (dry_machine long) n (stand (dry_of y.core) y.queue) ≡ dried (block (machine_of x view) n y)
+      → block (dry_machine long) n (stand (dry_of y.core) y.queue) ≡ dried (block (lapped_machine x view) n y)
   block_dried n y p e =
-      block_part dry_of (λ a. tt) (λ e. e) Plays Same (machine_of x view) (dry_machine long) maps (clocked x view) n y p
+      block_part dry_of (λ a. tt) (λ e. e) Plays Same (lapped_machine x view) (dry_machine long) maps (lapped_clocked x view) n y p
       (each_map Bringing _ (λ d b. (refl, λ l. (refl, b))) y.queue e)
       ∙ simp map-id

@@ -18,7 +18,7 @@ use Rattle.timeline.specs.declared.Command.{Command}
 use Rattle.timeline.specs.Command.{claim_of, takes_voice}
 use Rattle.timeline.specs.Record.{read_of, record_of}
 use Rattle.timeline.specs.Store.{row_at}
-use Rattle.timeline.specs.Queue.{queue, stingers}
+use Rattle.timeline.specs.Queue.{stingers}
 use Rattle.timeline.proofs.Words.{typed_read}
 use Rattle.timeline.proofs.Queue.{queue_inserted, stingers_inserted}
 use Rattle.bank.specs.declared.Bank.{Bank}

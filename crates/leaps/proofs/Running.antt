@@ -22,12 +22,12 @@ use Rattle.transport.specs.Transport.{transport_fits}
 use Rattle.transport.specs.Leap.{leap_of}
 use Rattle.transport.proofs.Fits.{step_fits}
 use Rattle.bank.specs.declared.Bank.{Bank}
-use Rattle.stage.specs.Machine.{Told}
 use Rattle.stage.proofs.Keeps.{fits_by}
 use Rattle.block.specs.Fill.{first_due, lead_of}
 use Rattle.block.proofs.Steps.{due_some, due_at, queue_some, lead_most, lead_some, lead_clear, one_not, one_due}
 use Rattle.leaps.specs.declared.Dry.{Dry}
 use Rattle.leaps.specs.declared.Run.{Run}
+use Rattle.leaps.specs.Laps.{Lapped}
 use Rattle.leaps.specs.Dry.{Lengths, lengths_in, dry_next, dry_exec, dry_machine}
 use Rattle.leaps.specs.Run.{put_told, written, dry_leap, first_of, first_run, first_told, leap_run, Executable, Stretchable, ran_from, run_done, Runnable}
 
@@ -82,13 +82,13 @@ leap_stands long n s h = rw (← run_leaps long n s h) (run_keeps (dry_machine l
 -- ---- the sheet
 
 -- a row written over leaves its length
-pub length_told : (ws : List ℕ) (i : ℕ) (t : Told) → length (put_told ws i t) ≡ length ws
+pub length_told : (ws : List ℕ) (i : ℕ) (t : Lapped) → length (put_told ws i t) ≡ length ws
 length_told ws i t =
-    length_put (put_row ws (i * 2) (row_of t.command)) (i * 2 + 1) (row t.clock.0 t.before.0 t.after.0 t.laps_before t.laps_after)
-    ∙ length_put ws (i * 2) (row_of t.command)
+    length_put (put_row ws (i * 2) (row_of t.told.command)) (i * 2 + 1) (row t.told.clock.0 t.told.before.0 t.told.after.0 t.laps_before t.laps_after)
+    ∙ length_put ws (i * 2) (row_of t.told.command)
 
 -- what is told last is the last row
-pub written_more : (ws : List ℕ) (k : ℕ) (l : List Told) (t : Told) → written ws k (l ++ (t ∷ [])) ≡ put_told (written ws k l) (k + length l) t
+pub written_more : (ws : List ℕ) (k : ℕ) (l : List Lapped) (t : Lapped) → written ws k (l ++ (t ∷ [])) ≡ put_told (written ws k l) (k + length l) t
 unfolding written
 written_more ws k [] t = rw (add-zero k)
 written_more ws k (x ∷ l) t =
@@ -98,7 +98,7 @@ written_more ws k (x ∷ l) t =
 -- ---- the loop
 
 module _ (b : Bank) (q : List ℕ) (r₀ : Run) (n : ℕ) (sheet₀ : List ℕ) where
-  abbrev machine : Machine Dry QueueRecord (Unit {0}) Told
+  abbrev machine : Machine Dry QueueRecord (Unit {0}) Lapped
   machine = dry_machine (lengths_in b)
 
   abbrev began : At Dry QueueRecord
@@ -109,7 +109,7 @@ module _ (b : Bank) (q : List ℕ) (r₀ : Run) (n : ℕ) (sheet₀ : List ℕ) 
     pub most : i ≤ n
     pub ready : Runnable b q r (n - i) (length sheet)
     pub made : List (Unit {0})
-    pub told : List Told
+    pub told : List Lapped
     pub partway : Partway machine n began i r.dry (queue q r.queued) made told
     pub rows : r.rows ≡ r₀.rows + length told
     pub size : length sheet ≡ length sheet₀
@@ -139,7 +139,7 @@ module _ (b : Bank) (q : List ℕ) (r₀ : Run) (n : ℕ) (sheet₀ : List ℕ) 
     run_lies = h.ready.lies
 
     -- all frames are behind, and one command, if it is due, was executed
-    ends_at : 0 < n → i ≡ n → (c : Run) (sheet' : List ℕ) (told : List Told) → one machine r.dry (queue q r.queued) ≡ ran (stand c.dry (queue q c.queued)) [] told
+    ends_at : 0 < n → i ≡ n → (c : Run) (sheet' : List ℕ) (told : List Lapped) → one machine r.dry (queue q r.queued) ≡ ran (stand c.dry (queue q c.queued)) [] told
         → c.rows ≡ r₀.rows + length (h.told ++ told) → sheet' ≡ written sheet₀ r₀.rows (h.told ++ told) → (c, sheet') ≡ run_done r₀ sheet₀ (ran_from b q r₀ n)
     unfolding ran_from
     ends_at pos e c sheet' told w rows lines =

@@ -11,9 +11,10 @@ use Rattle.bank.specs.Slots.{clip_of, extent_of}
 use Rattle.stage.specs.declared.Playhead.{Playhead}
 use Rattle.stage.specs.declared.Stage.{Stage}
 use Rattle.stage.specs.Playhead.{playhead, playhead_by}
-use Rattle.stage.specs.Machine.{Told, FrameMade, told_of}
+use Rattle.stage.specs.Machine.{FrameMade}
 use Rattle.session.specs.declared.Session.{Session}
 use Rattle.leaps.specs.declared.Dry.{Dry}
+use Rattle.leaps.specs.Laps.{Lapped, lapped_of}
 
 -- the playhead without its cursor
 abbrev pub blind : Playhead → Playhead
@@ -39,14 +40,14 @@ dry_next long s = dry_at (s.clock.0 + 1) (blind (playhead (step_of false 0 (long
 unfoldable pub dry_exec : Lengths → QueueRecord → Dry → Dry
 dry_exec long d s = dry_at s.clock.0 (blind (playhead_by (long s.playhead.song) d.command s.playhead))
 
--- a frame makes nothing, an executed command tells what it tells in the session
-abbrev pub dry_machine : Lengths → Machine Dry QueueRecord (Unit {0}) Told
+-- a frame makes nothing, an executed command tells what it tells in the session, with the laps before and after it
+abbrev pub dry_machine : Lengths → Machine Dry QueueRecord (Unit {0}) Lapped
 dry_machine long =
     record {
       clock = λ s. s.clock.0;
       when = λ d. d.at.0;
       exec = dry_exec long;
-      tells = λ d s. told_of s.clock (long s.playhead.song) d s.playhead;
+      tells = λ d s. lapped_of s.clock (long s.playhead.song) d s.playhead;
       next = dry_next long;
       makes = λ s. tt;
     }
@@ -56,9 +57,9 @@ abbrev pub lengths_in : Bank → Lengths
 lengths_in b h = extent_of (clip_of b h).kind
 
 -- a dry run of n frames of a session with its queue
-unfoldable pub dry_ran : Session → List ℕ → ℕ → Ran Dry QueueRecord (Unit {0}) Told
+unfoldable pub dry_ran : Session → List ℕ → ℕ → Ran Dry QueueRecord (Unit {0}) Lapped
 dry_ran s q n = block (dry_machine (lengths_in s.bank)) n (stand (dry_of s.stage) (queue q s.queued))
 
 -- what a dry run keeps of what the stage did: where it came to, what is still queued, and what the commands told
-abbrev pub dried : Ran Stage QueueRecord FrameMade Told → Ran Dry QueueRecord (Unit {0}) Told
+abbrev pub dried : Ran Stage QueueRecord FrameMade Lapped → Ran Dry QueueRecord (Unit {0}) Lapped
 dried r = ran (stand (dry_of r.at.core) r.at.queue) (map (λ a. tt) r.made) r.told

@@ -4,19 +4,19 @@ use Rattle.laws.specs.Block.{Ran}
 use Rattle.laws.specs.Queue.{Each}
 use Rattle.timeline.specs.declared.QueueRecord.{QueueRecord}
 use Rattle.bank.specs.Sample.{frames_of, is_pool, is_odd}
-use Rattle.stage.specs.Machine.{Told}
 use Rattle.session.specs.declared.Session.{Session}
 use Rattle.session.specs.WellFormed.{well_formed}
-use Rattle.block.specs.Block.{ran_of, block_of, blocks_of, joined}
+use Rattle.block.specs.Block.{block_of, blocks_of, joined}
 use Rattle.submission.specs.Replay.{replay_of}
 use Rattle.leaps.specs.declared.Dry.{Dry}
+use Rattle.leaps.specs.Laps.{Lapped, lapped_ran}
 use Rattle.leaps.specs.Dry.{dry_of, dry_ran}
 use Rattle.leaps.specs.Same.{Alike}
 
--- what the commands tell that blocks execute, one block after the other
-abbrev pub executed_by : Session → List ℕ → List ℕ → List Float → List (List Float) → List Told
+-- what the commands tell that blocks execute, with the laps before and after each, one block after the other
+abbrev pub executed_by : Session → List ℕ → List ℕ → List Float → List (List Float) → List Lapped
 executed_by s q c pool [] = []
-executed_by s q c pool (out ∷ outs) = (ran_of s q pool (frames_of out)).told ++ executed_by (block_of s q c pool out).0.session q c pool outs
+executed_by s q c pool (out ∷ outs) = (lapped_ran s q pool (frames_of out)).told ++ executed_by (block_of s q c pool out).0.session q c pool outs
 
 -- a full session with its stores: well formed, over a pool of its length, its table of 16 places
 pub record Full (t : Session) (p d : List ℕ) (pool : List Float) : Type 0 where
@@ -24,8 +24,8 @@ pub record Full (t : Session) (p d : List ℕ) (pool : List Float) : Type 0 wher
   pub pooled : is_pool pool t.settings.pool ≡ true
   pub voices : length t.stage.sound.voices.table ≡ 16
 
--- a dry run has come to where blocks of a session come: the same clock, song, state, position, loop and laps, the same commands executed, and as many still queued
-pub record Comes (r : Ran Dry QueueRecord (Unit {0}) Told) (t : Session) (p d : List ℕ) (pool : List Float) (outs : List (List Float)) : Type 0 where
+-- a dry run has come to where blocks of a session come: the same clock, song, state, position, loop and laps, the same commands executed, with the laps before and after each, and as many still queued
+pub record Comes (r : Ran Dry QueueRecord (Unit {0}) Lapped) (t : Session) (p d : List ℕ) (pool : List Float) (outs : List (List Float)) : Type 0 where
   pub stands : r.at.core ≡ dry_of (blocks_of t p d pool outs).0.stage
   pub queued : length r.at.queue ≡ (blocks_of t p d pool outs).0.queued
   pub executed : r.told ≡ executed_by t p d pool outs

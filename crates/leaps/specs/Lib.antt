@@ -1,3 +1,4 @@
+pub mod Laps
 pub mod Dry
 pub mod Same
 pub mod Equal

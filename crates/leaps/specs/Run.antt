@@ -11,21 +11,21 @@ use Rattle.transport.specs.Transport.{transport_fits}
 use Rattle.transport.specs.Leap.{leap_of, Leapable}
 use Rattle.bank.specs.declared.Bank.{Bank}
 use Rattle.stage.specs.Playhead.{playhead}
-use Rattle.stage.specs.Machine.{Told, told_of}
 use Rattle.session.specs.declared.Session.{Session}
 use Rattle.leaps.specs.declared.Dry.{Dry}
 use Rattle.leaps.specs.declared.Run.{Run}
+use Rattle.leaps.specs.Laps.{Lapped, lapped_of}
 use Rattle.leaps.specs.Dry.{Lengths, lengths_in, dry_at, dry_of, dry_exec, dry_machine}
 
 -- ---- the sheet: ten words a row
 
 -- row i: the command's five words, then the clock, the position before and after, the laps before and after
-abbrev pub put_told : List ℕ → ℕ → Told → List ℕ
+abbrev pub put_told : List ℕ → ℕ → Lapped → List ℕ
 put_told ws i t =
-    put_row (put_row ws (i * 2) (row_of t.command)) (i * 2 + 1) (row t.clock.0 t.before.0 t.after.0 t.laps_before t.laps_after)
+    put_row (put_row ws (i * 2) (row_of t.told.command)) (i * 2 + 1) (row t.told.clock.0 t.told.before.0 t.told.after.0 t.laps_before t.laps_after)
 
 -- what many commands tell, from row k on
-unfoldable pub written : List ℕ → ℕ → List Told → List ℕ
+unfoldable pub written : List ℕ → ℕ → List Lapped → List ℕ
 written ws k [] = ws
 written ws k (t ∷ l) = written (put_told ws k t) (k + 1) l
 
@@ -44,8 +44,8 @@ abbrev pub first_run : Bank → List ℕ → Run → Run
 first_run b q r = record { dry = dry_exec (lengths_in b) (first_of q r.queued) r.dry; queued = r.queued - 1; rows = r.rows + 1 }
 
 -- what it tells
-abbrev pub first_told : Bank → List ℕ → Run → Told
-first_told b q r = told_of r.dry.clock (lengths_in b r.dry.playhead.song) (first_of q r.queued) r.dry.playhead
+abbrev pub first_told : Bank → List ℕ → Run → Lapped
+first_told b q r = lapped_of r.dry.clock (lengths_in b r.dry.playhead.song) (first_of q r.queued) r.dry.playhead
 
 -- so many frames at once, and the queue and the sheet as they were
 abbrev pub leap_run : Bank → ℕ → Run → Run
@@ -67,7 +67,7 @@ pub record Stretchable (r : Run) (b : Bank) (n : ℕ) : Type 0 where
 -- ---- the run
 
 -- n frames of a run over a bank's songs
-unfoldable pub ran_from : Bank → List ℕ → Run → ℕ → Ran Dry QueueRecord (Unit {0}) Told
+unfoldable pub ran_from : Bank → List ℕ → Run → ℕ → Ran Dry QueueRecord (Unit {0}) Lapped
 ran_from b q r n = block (dry_machine (lengths_in b)) n (stand r.dry (queue q r.queued))
 
 -- a run that starts where a session stands, on an empty sheet
@@ -75,7 +75,7 @@ abbrev pub run_of : Session → Run
 run_of s = record { dry = dry_of s.stage; queued = s.queued; rows = 0 }
 
 -- where the run comes to, and its sheet
-abbrev pub run_done : Run → List ℕ → Ran Dry QueueRecord (Unit {0}) Told → Run × List ℕ
+abbrev pub run_done : Run → List ℕ → Ran Dry QueueRecord (Unit {0}) Lapped → Run × List ℕ
 run_done r sheet x = (
   record { dry = x.at.core; queued = length x.at.queue; rows = r.rows + length x.told },
   written sheet r.rows x.told,
