@@ -5,7 +5,11 @@ ghost use Rattle.std.specs.Prelude.{◌≡◌, ℕ, List, Float};
 ghost use Rattle.host.specs.Calls.{open_host, load_host, retire_host, submit_host, transition_host, replay_host, block_host, pump_host, drain_host, read_tour_host, write_tour_host, salvage_host, start_capture_host, stop_capture_host, snapshot_host, apply_host, metrics_host};
 
 use counts::{Handle, SongFrame};
-use host::{HostAnswered, HostAt, HostBlocked, HostCommand, HostDrained, HostLoaded, HostMetrics, HostPumped, HostReplayed, HostSalvage, HostSession, HostSnapped, HostSnapshot, HostStopped, HostSubmitted, HostTour};
+use host::{
+    HostAnswered, HostAt, HostBlocked, HostCommand, HostDrained, HostLoaded, HostMetrics,
+    HostPumped, HostReplayed, HostSalvage, HostSession, HostSnapped, HostSnapshot, HostStopped,
+    HostSubmitted, HostTour,
+};
 use ring::SampleRing;
 use stage::Settings;
 
