@@ -8,6 +8,7 @@ ghost use Rattle.timeline.specs.Queue.{stingers};
 ghost use Rattle.session.specs.declared.Session.{Session};
 ghost use Rattle.session.specs.declared.Weighed.{Weighed};
 ghost use Rattle.session.specs.Session.{desk_of, with_queue, captured_now, turned_away};
+ghost use Rattle.session.specs.Refusal.{unless};
 ghost use Rattle.session.specs.WellFormed.{well_formed};
 ghost use Rattle.submission.specs.declared.SubmitAnswer.{SubmitAnswer};
 ghost use Rattle.submission.specs.declared.SubmitAnswered.{SubmitAnswered};
@@ -385,16 +386,32 @@ fn take_recorded(z: ReplayState, queue: &mut [u64], r: QueueRecord) -> ReplaySta
     ReplayState { session: s, report }
 }
 
-/// One record: skipped if it is refused, else taken.
+/// A recorded command, weighed as a submission without 16: skipped if it is refused, else taken.
+fn replay_record(z: ReplayState, queue: &mut [u64], r: QueueRecord) -> ReplayState
+    requires { RowReady (standing z queue.old) × (gain_ok r.command ≡ true) }
+    ensures { standing result queue.new ≡ unless (weigh_command (scales_of z.session queue.old true) (stands_now z.session r.command) r.command) (skipped_by (standing z queue.old)) (taken_by (standing z queue.old) r) }
+{
+    let s = z.session;
+    let command = r.command;
+    let scales = scales_of(s, &queue[..], true);
+    let stands = stands_now(s, command);
+    let weighed = weigh_command(scales, stands, command);
+    match weighed {
+        Weighed::Fine => take_recorded(z, queue, r),
+        Weighed::Refused(k) => skip(z, k),
+    }
+}
+
+/// One record: 21, then as a submission without 16.
 pub fn replay_row(z: ReplayState, queue: &mut [u64], x: Row) -> ReplayState
     requires { RowReady (standing z queue.old) }
     ensures { standing result queue.new ≡ replay_row (standing z queue.old) x }
 {
-    let s = z.session;
-    let weighed = weigh_replayed(s, &queue[..], x);
-    match weighed {
-        Weighed::Fine => take_recorded(z, queue, timeline::record_of(x)),
-        Weighed::Refused(k) => skip(z, k),
+    let reading = timeline::read(x);
+    match reading {
+        Reading::Unreadable => skip(z, Refusal::Unreadable),
+        Reading::GainRefused => skip(z, Refusal::BadGain),
+        Reading::Record(r) => replay_record(z, queue, r),
     }
 }
 

@@ -1,35 +1,62 @@
--- `replay_row` meets its contract: refused, or taken.
-use mathlib.Core.Path.{sym, ap, ◌∙◌}
-use Prim.Native.Nat.{◌<◌, ◌^◌}
-use mathlib.Core.Bool.{true}
+-- `replay_row` meets its contract: what reading a row answers is what the tests say.
+use mathlib.Core.Path.{◌≡◌, refl, sym, ap, ◌∙◌}
+use mathlib.Core.Bool.{true, false}
+use mathlib.Core.Logic.{⊎_elim}
+use Prim.Native.Nat.{ℕ}
 use native.Mathlib.Omega.{arith}
-use Rattle.timeline.specs.Record.{read_of}
-use Rattle.session.proofs.Refuse.{unless_fine, unless_refused}
-use Rattle.submission.specs.Replay.{standing, taken_by, replay_row}
-use Rattle.submission.proofs.Weigh.{number_left}
-use Rattle.submission.proofs.Ready.{record_room, taken_fits}
+use Rattle.counts.proofs.Truth.{two_ways}
+use Rattle.timeline.specs.declared.QueueRecord.{QueueRecord}
+use Rattle.timeline.specs.declared.Row.{Row}
+use Rattle.timeline.specs.declared.Reading.{Reading}
+use Rattle.timeline.specs.Command.{gain_ok}
+use Rattle.timeline.specs.Record.{readable, read_of, record_of, reading_of}
+use Rattle.session.specs.declared.Refusal.{Refusal}
+use Rattle.session.specs.Refusal.{first, unless}
+use Rattle.submission.specs.Weigh.{weigh_command, scales_of, stands_now}
+use Rattle.submission.specs.Replay.{Replaying, weigh_replayed, taken_by, skipped_by, replay_row}
 use Rattle.submission.proofs.replay_row.Goals as goal
 
-pub record_of-requires : goal.record_of-requires
-record_of-requires c =
-    let t = taken_fits _ _ _ (sym c.weigh_replayed-weighed.ensures ∙ c.in-Fine.is) in
-    (t.0, t.1.gain)
+-- what the code does for each reading
+abbrev answer : Replaying → Reading → Replaying
+answer z Reading.Unreadable = skipped_by z Refusal.Unreadable
+answer z Reading.GainRefused = skipped_by z Refusal.BadGain
+answer z (Reading.Record r) = unless (weigh_command (scales_of z.session z.queue true) (stands_now z.session r.command) r.command) (skipped_by z) (taken_by z r)
 
-pub take_recorded-requires : goal.take_recorded-requires
-take_recorded-requires c =
-    let s = c.args.z.session in
-    let q = c.args.queue.now in
-    let f = (taken_fits s q c.args.x (sym c.weigh_replayed-weighed.ensures ∙ c.in-Fine.is)).1 in
-    let small : s.desk.number < 2 ^ 64 = omega (arith, c.well_formed.0.1.1.0.1.1.1.1.1.1.0) in
-    (c.requires.counts, record_room s q c.requires.size f.depth, number_left s q true (read_of c.args.x) f small, rw c.record_of.ensures f.gain)
+-- is what the tests say: of a record,
+reads_record : (z : Replaying) (x : Row) → readable x ≡ true → gain_ok (read_of x) ≡ true → answer z (reading_of x) ≡ replay_row z x
+unfolding replay_row weigh_replayed first
+reads_record z x e g = rw (e, g) refl
 
-pub returns-in-Fine : goal.returns-in-Fine
-unfolding replay_row
-returns-in-Fine c =
-    let a = c.args in
-    let w = sym c.weigh_replayed-weighed.ensures ∙ c.in-Fine.is in
-    c.take_recorded.ensures ∙ ap (taken_by (standing a.z a.queue.now)) c.record_of.ensures ∙ sym (unless_fine _ _ _ w)
+-- and of any row
+reads : (z : Replaying) (x : Row) → answer z (reading_of x) ≡ replay_row z x
+unfolding replay_row weigh_replayed weigh_command first unless
+reads z x =
+    ⊎_elim
+    (λ (e : readable x ≡ true). ⊎_elim (reads_record z x e) (λ (g : gain_ok (read_of x) ≡ false). rw (e, g) refl) (two_ways (gain_ok (read_of x))))
+    (λ (e : readable x ≡ false). rw e refl)
+    (two_ways (readable x))
 
-pub returns-in-Refused : goal.returns-in-Refused
-unfolding replay_row
-returns-in-Refused c = c.skip.ensures _ ∙ sym (unless_refused _ _ _ _ (sym c.weigh_replayed-weighed.ensures ∙ c.in-Refused.is))
+answers : (z : Replaying) (x : Row) (r : Reading) → reading_of x ≡ r → answer z r ≡ replay_row z x
+answers z x r e = ap (answer z) (sym e) ∙ reads z x
+
+-- a record that is read has a gain that 14 allows
+read_gain : (x : Row) (r : QueueRecord) → reading_of x ≡ Reading.Record r → gain_ok r.command ≡ true
+read_gain x r e =
+    ⊎_elim
+    (λ (a : readable x ≡ true). ⊎_elim
+    (λ (g : gain_ok (read_of x) ≡ true). let h = rw (a, g) at e in let k : record_of x ≡ r = cc in rw (sym k) g)
+    (λ (g : gain_ok (read_of x) ≡ false). let h = rw (a, g) at e in let z : ◌≡◌ {A = ℕ} 0 1 = cc in absurd (omega arith)) (two_ways (gain_ok (read_of x))))
+    (λ (a : readable x ≡ false). let h = rw a at e in let z : ◌≡◌ {A = ℕ} 0 1 = cc in absurd (omega arith))
+    (two_ways (readable x))
+
+pub replay_record-requires : goal.replay_record-requires
+replay_record-requires c = (c.requires, read_gain _ _ (sym c.read-reading.ensures ∙ c.in-Record.is))
+
+pub returns-in-Unreadable : goal.returns-in-Unreadable
+returns-in-Unreadable c = c.skip.ensures _ ∙ answers _ _ _ (sym c.read-reading.ensures ∙ c.in-Unreadable.is)
+
+pub returns-in-GainRefused : goal.returns-in-GainRefused
+returns-in-GainRefused c = c.skip-in-GainRefused.ensures _ ∙ answers _ _ _ (sym c.read-reading.ensures ∙ c.in-GainRefused.is)
+
+pub returns-in-Record : goal.returns-in-Record
+returns-in-Record c = c.replay_record.ensures ∙ answers _ _ _ (sym c.read-reading.ensures ∙ c.in-Record.is)
