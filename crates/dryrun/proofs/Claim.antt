@@ -23,7 +23,7 @@ use Rattle.tourfile.proofs.Answers.{done_read, read_filled, length_puts}
 use Rattle.timeline.specs.declared.QueueRecord.{QueueRecord}
 use Rattle.timeline.proofs.Rows.{row_take}
 use Rattle.bank.specs.Sample.{frames_of, is_odd}
-use Rattle.stage.specs.Machine.{Told}
+use Rattle.leaps.specs.Laps.{Lapped}
 use Rattle.session.specs.declared.Session.{Session}
 use Rattle.session.specs.WellFormed.{well_formed}
 use Rattle.block.specs.Block.{joined}
@@ -90,7 +90,7 @@ module _ (mode : ℕ) (clips file blocks : List ℕ) (x : Lent) (long : length x
         replay_done_law s x.queue [] tour formed
         ∙ ap replay_done (ap (replayed s x.queue tour) tour_count ∙ front_replayed s x.queue words n n (omega arith))
 
-    abbrev r : Ran Dry QueueRecord (Unit {0}) Told
+    abbrev r : Ran Dry QueueRecord (Unit {0}) Lapped
     r = ran_from z.session.bank z.queue (run_of z.session) (frames_in blocks)
 
     -- what the dry run gives, and what it leaves
