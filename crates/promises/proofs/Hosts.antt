@@ -1,7 +1,7 @@
 -- What a host has reached stands for a reached state; each exported function does its call there, and a refused one changes nothing. Assumes nothing.
 use mathlib.Core.Path.{◌≡◌, refl, sym, ap, ◌∙◌, subst}
 use mathlib.Core.Logic.{◌⊎◌, inl, inr, ◌≢◌}
-use mathlib.Core.Bool.{Bool, true, false, ◌&&◌, cond}
+use mathlib.Core.Bool.{true, false}
 use mathlib.Core.List.{List}
 use Prim.Native.Nat.{ℕ, zero, suc, ◌+◌, ◌-◌, ◌^◌, min}
 use native.Mathlib.Omega.{arith}
@@ -46,7 +46,7 @@ use Rattle.host.specs.Calls.{open_host, load_host, retire_host, submit_host, tra
 use Rattle.host.proofs.Round.{names}
 use Rattle.host.proofs.Refusals.{with_store, with_stores, turned_same, weighed_fine, weighed_unnamed, each_way, load_stays, retire_stays, submit_stays, transition_stays, replay_stays, block_stays, pump_stays, start_stays, stop_stays, snapshot_stays, apply_stays, metrics_stays}
 use Rattle.host.proofs.Under.{open_under, load_under, retire_under, submit_under, transition_under, replay_under, block_under, pump_under, start_under, stop_under, snapshot_under, apply_under, metrics_under}
-use Rattle.promises.specs.Calls.{State, state, with_session, code, refusal, after, Opening, opened, Reached, at_opening, after_call}
+use Rattle.promises.specs.Calls.{State, state, with_session, code, Opening, opened, Reached, at_opening, after_call}
 use Rattle.promises.specs.Hosts as hosts
 use Rattle.promises.specs.Hosts.{HostState, HostCall, host_state, keeping, state_of, host_refusal, host_after, host_out, host_list, host_opened, named, call_of, HostReached, DoesItsCall, OpensAsCall, ForHosts, HostRefused}
 use Rattle.promises.specs.Kept.{Good}

@@ -10,7 +10,7 @@ use borrow.Author.Tests.{leb-true, le-ltb}
 use lib.IntN.{ℤ, pos, negsuc}
 use lib.Dec.{T, leb, ltb, eqb, ltb→lt, eqb→eq, lit<}
 use lib.Pow.{pow_pos, pow-lt, pow-add, pow_mono, shl_lt}
-use lib.Ieee.{Float, nan, inf, fin, Format, binary32, low, up, down, odd, units, round, mul, lt, le, fits}
+use lib.Ieee.{Float, nan, inf, fin, Format, prec, binary32, low, up, down, odd, units, round, mul, lt, le, fits}
 use lib.Ieee.Fits.{down_pos, and_l, and_r}
 use lib.Ieee.Exact.{HasValue, round_exact}
 use lib.Ieee.Order.{round_mono}
@@ -27,7 +27,7 @@ magnitude_odd d s (suc q) k l = refl
 
 magnitude_units : (f : Format) (s : Bool) (q k : ℕ) → magnitude (units f s q k) ≡ units f false q k
 unfolding units
-magnitude_units f s q k = go (ltb (q * 2 ^ k) _) _ _ (magnitude_odd _ s q k (low f))
+magnitude_units f s q k = go (ltb (q * 2 ^ k) _) _ _ (magnitude_odd (suc (prec f)) s q k (low f))
   where
     go : (b : Bool) (x y : Float) → magnitude x ≡ y → magnitude (cond b x (inf s)) ≡ cond b y (inf false)
     go true x y e = e

@@ -10,7 +10,7 @@ use borrow.Author.Tests.{ltb-true}
 use lib.IntN.{ℤ, pos, negsuc}
 use lib.Dec.{T, ltb}
 use lib.Pow.{pow_pos, pow-lt}
-use lib.Ieee.{Float, nan, inf, fin, Format, binary32, low, up, down, odd, units, round, sum, add, mul, fits}
+use lib.Ieee.{Float, nan, inf, fin, Format, prec, binary32, low, up, down, odd, units, round, sum, add, mul, fits}
 use lib.Ieee.Fits.{up_pos, down_pos, add-fits, mul-fits}
 use lib.Ieee.Exact.{round_exact}
 use lib.Ieee.Order.{round_mono}
@@ -72,7 +72,7 @@ round_zero f s num den = sym (magnitude_zero (round f s num den)) ∙ ap is_zero
 
 units_plus : (f : Format) (q k : ℕ) → minus_zero (units f false q k) ≡ false
 unfolding units odd
-units_plus f q k = go (ltb (q * 2 ^ k) _) _ (plus_odd _ q k (low f))
+units_plus f q k = go (ltb (q * 2 ^ k) _) _ (plus_odd (suc (prec f)) q k (low f))
   where
     plus_odd : (d q k l : ℕ) → minus_zero (odd d false q k l) ≡ false
     plus_odd d zero k l = refl
