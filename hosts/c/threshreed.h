@@ -1,4 +1,4 @@
-/* Threshreed for a host in C11 (a C++ host may include it too). Link with libhost.a, which `rt staticlib host` writes.
+/* Threshreed for a host in C11 (a C++ host may include it too). Link with libhost.a, which `hosts/library` writes.
  * example.c is ten lines to the first sound, tour.c two minutes with every call, live.c the same through a ring and
  * ALSA, saved.c a walk that is kept in a file and played again.
  *

@@ -1,4 +1,4 @@
-//! Links the proved library that `rt staticlib host` writes. `THRESHREED_LIB` may name another folder that holds it.
+//! Links the proved library that `hosts/library` writes. `THRESHREED_LIB` may name another folder that holds it.
 
 use std::env;
 use std::path::Path;
@@ -13,7 +13,7 @@ fn main() {
     println!("cargo::rerun-if-changed={}", library.display());
     if !library.exists() {
         println!(
-            "cargo::error={} is not there: run `rt staticlib host` in the repository's root",
+            "cargo::error={} is not there: run `hosts/library` in the repository's root",
             library.display()
         );
         return;

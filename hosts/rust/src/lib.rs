@@ -1,6 +1,6 @@
 //! Threshreed for a host in Rust: compiled songs play from a queue of commands that fire on exact frames.
 //!
-//! No heap, no dependency, no panic. The sound is made by the proved library, which `rt staticlib host` writes; this
+//! No heap, no dependency, no panic. The sound is made by the proved library, which `hosts/library` writes; this
 //! crate keeps the session and its stores together, so that no call can be lent the wrong ones.
 //!
 //! A call needs some 28 KB of stack, and some 10 more in a debug build, however much there is to play. A thread with
