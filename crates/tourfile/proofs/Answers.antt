@@ -25,19 +25,46 @@ use Rattle.tourfile.proofs.Writes.{file_length}
 
 -- ---- the reader
 
-module _ (clips file : List ℕ) (room : ℕ) where
-  pub read_twice : listed_twice clips ≡ true → refused Fault.ListedTwice ≡ read_of clips file room
-  unfolding read_of
-  read_twice t = rw t refl
+module _ (clips file list : List ℕ) where
+  pub read_twice : listed_twice clips ≡ true → (refused Fault.ListedTwice ≡ read_of clips file (length list)) × (list ≡ read_into clips file list)
+  unfolding read_of read_into
+  read_twice t = (rw t refl, rw t refl)
 
   module _ (t : listed_twice clips ≡ false) where
-    pub read_short : (n : ℕ) → weighed clips start (fields_of file) ≡ TourAnswer.Done n → room / 5 < n → refused Fault.ListTooShort ≡ read_of clips file room
-    unfolding read_of
-    read_short n w h = rw (t, w, lt-leb _ _ h) refl
+    pub read_fine : (n : ℕ) → weighed clips start (fields_of file) ≡ TourAnswer.Done n → n ≤ length list / 5
+        → (TourAnswer.Done n ≡ read_of clips file (length list)) × (put_rows list 0 (rows_in clips (fields_of file)) ≡ read_into clips file list)
+    unfolding read_of read_into
+    read_fine n w h = (rw (t, w, le-leb _ _ h) refl, rw (t, w, le-leb _ _ h) refl)
 
-    pub read_faulty : (x : Fault) (at : ℕ) → weighed clips start (fields_of file) ≡ TourAnswer.Refused x at → TourAnswer.Refused x at ≡ read_of clips file room
+    pub read_short : (n : ℕ) → weighed clips start (fields_of file) ≡ TourAnswer.Done n → length list / 5 < n
+        → (refused Fault.ListTooShort ≡ read_of clips file (length list)) × (list ≡ read_into clips file list)
+    unfolding read_of read_into
+    read_short n w h = (rw (t, w, lt-leb _ _ h) refl, rw (t, w, lt-leb _ _ h) refl)
+
+    pub read_faulty : (x : Fault) (at : ℕ) → weighed clips start (fields_of file) ≡ TourAnswer.Refused x at
+        → (TourAnswer.Refused x at ≡ read_of clips file (length list)) × (list ≡ read_into clips file list)
+    unfolding read_of read_into
+    read_faulty x at w = (rw (t, w) refl, rw (t, w) refl)
+
+-- the records of an accepted file fit a list that has room for as many as the answer says
+pub read_room : (clips file : List ℕ) (n room : ℕ) → weighed clips start (fields_of file) ≡ TourAnswer.Done n → n ≤ room / 5
+    → length (rows_in clips (fields_of file)) * 5 ≤ room
+read_room clips file n room w h = let e = records_count clips (fields_of file) start n w in omega arith
+
+-- of the answer alone, for a list of so much room
+module _ (clips file : List ℕ) (room : ℕ) where
+  pub weighs_twice : listed_twice clips ≡ true → refused Fault.ListedTwice ≡ read_of clips file room
+  unfolding read_of
+  weighs_twice t = rw t refl
+
+  module _ (t : listed_twice clips ≡ false) where
+    pub weighs_short : (n : ℕ) → weighed clips start (fields_of file) ≡ TourAnswer.Done n → room / 5 < n → refused Fault.ListTooShort ≡ read_of clips file room
     unfolding read_of
-    read_faulty x at w = rw (t, w) refl
+    weighs_short n w h = rw (t, w, lt-leb _ _ h) refl
+
+    pub weighs_faulty : (x : Fault) (at : ℕ) → weighed clips start (fields_of file) ≡ TourAnswer.Refused x at → TourAnswer.Refused x at ≡ read_of clips file room
+    unfolding read_of
+    weighs_faulty x at w = rw (t, w) refl
 
 -- a reader that is done: nothing is listed twice, no field is faulty, the list has room
 pub record Read (clips file : List ℕ) (room n : ℕ) : Type 0 where
@@ -68,8 +95,8 @@ module _ (clips file : List ℕ) (room n : ℕ) (e : read_of clips file room ≡
   read_count = let c = records_count clips (fields_of file) start n done_read.fine in omega arith
 
   -- and they fit the list
-  pub read_room : length (rows_in clips (fields_of file)) * 5 ≤ room
-  read_room = let c = read_count in let h = done_read.fits in omega arith
+  pub done_room : length (rows_in clips (fields_of file)) * 5 ≤ room
+  done_room = let c = read_count in let h = done_read.fits in omega arith
 
 -- as many words as there were
 pub length_puts : (xs : List Row) (l : List ℕ) (i : ℕ) → length (put_rows l i xs) ≡ length l

@@ -3,7 +3,7 @@ use mathlib.Core.Path.{◌≡◌, sym, ap, ◌∙◌}
 use native.Mathlib.Omega.{arith}
 use lib.ListN.{length}
 use borrow.Author.Rules.{rules}
-use Rattle.tourfile.proofs.Answers.{done_read, read_room}
+use Rattle.tourfile.proofs.Answers.{done_read, done_room}
 use Rattle.dryrun.specs.Blocks.{frames_in}
 use Rattle.dryrun.specs.Call.{lent}
 use Rattle.dryrun.proofs.Blocks.{sum_taken, sum_refused}
@@ -14,7 +14,7 @@ pub fill-requires : goal.fill-requires
 fill-requires c =
     let a = c.args in
     let size : length a.records.now ≡ 1280 = search rules in
-    rw size (read_room _ _ 1280 _ (sym c.weigh_read-a.ensures ∙ c.in-Done.is))
+    rw size (done_room _ _ 1280 _ (sym c.weigh_read-a.ensures ∙ c.in-Done.is))
 
 pub run_records-requires : goal.run_records-requires
 run_records-requires c =

@@ -1,11 +1,11 @@
 -- `read_tour` meets its contract.
 use mathlib.Core.Path.{sym, ◌∙◌}
-use Rattle.tourfile.proofs.Answers.{read_room, read_filled, read_left}
+use Rattle.tourfile.proofs.Answers.{done_room, read_filled, read_left}
 use Rattle.tourfile.proofs.read_tour.Goals as goal
 
 pub fill-requires : goal.fill-requires
 fill-requires c =
-    read_room _ _ _ _ (sym c.weigh_read-a.ensures ∙ c.in-Done.is)
+    done_room _ _ _ _ (sym c.weigh_read-a.ensures ∙ c.in-Done.is)
 
 pub returns-in-Refused : goal.returns-in-Refused
 returns-in-Refused c =
