@@ -51,4 +51,3 @@ says_dry_by r =
     cond (eqb r.refusal 0)
     (came r.commands r.taken r.executed r.queued r.clock r.song (state_of r.state) r.position (loop_of r.looped) r.laps)
     (refuses_dry r.refusal r.place)
-
