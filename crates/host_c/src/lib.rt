@@ -2,7 +2,9 @@
 #![tactic(auto)]
 
 ghost use Rattle.std.specs.Prelude.{◌≡◌, ℕ, List, Float};
+ghost use Rattle.dryrun.specs.Call.{Lent, lent};
 ghost use Rattle.host.specs.Calls.{open_host, load_host, retire_host, submit_host, transition_host, replay_host, block_host, pump_host, drain_host, read_tour_host, write_tour_host, salvage_host, start_capture_host, stop_capture_host, snapshot_host, apply_host, metrics_host};
+ghost use Rattle.host_dry.specs.Calls.{dry_run_host};
 
 use counts::{Handle, SongFrame};
 use host::{
@@ -10,6 +12,7 @@ use host::{
     HostPumped, HostReplayed, HostSalvage, HostSession, HostSnapped, HostSnapshot, HostStopped,
     HostSubmitted, HostTour,
 };
+use host_dry::HostDryRun;
 use ring::SampleRing;
 use stage::Settings;
 
@@ -164,6 +167,24 @@ pub extern "C" fn threshreed_salvage(file: &[u8], out: &mut [u8], list: &mut [u6
     ensures { ◌≡◌ {A = HostSalvage × List ℕ × List ℕ} (result, out.new, list.new) (salvage_host file.now out.old list.old) }
 {
     host::threshreed_salvage(file, out, list)
+}
+
+/// Runs a recorded tour without its sound: its records and why each is skipped, what is still queued, and the sheet of what
+/// was executed.
+#[unsafe(no_mangle)]
+pub extern "C" fn threshreed_dry_run(
+    mode: u32,
+    clips: &[u64],
+    file: &[u8],
+    blocks: &[u64],
+    records: &mut [u64; 1280],
+    reasons: &mut [u64; 256],
+    queue: &mut [u64; 1280],
+    sheet: &mut [u64; 2560],
+) -> HostDryRun
+    ensures { ◌≡◌ {A = HostDryRun × Lent} (result, lent records.new reasons.new queue.new sheet.new) (dry_run_host mode clips.now file.now blocks.now (lent records.old reasons.old queue.old sheet.old)) }
+{
+    host_dry::threshreed_dry_run(mode, clips, file, blocks, records, reasons, queue, sheet)
 }
 
 /// Starts capture, empty.
