@@ -1,10 +1,13 @@
-//! The fresh file is there whole or not at all.
+//! The damaged file is read whole, and the fresh one is there whole or not at all.
 ghost use Rattle.std.specs.Prelude.{◌≤◌};
 
 use crate::said;
 use std::fs::File;
 use std::io::Write;
 use std::{fs, io};
+
+/// The most bytes of a damaged file. The longest tour has 147,466, skipped fields aside.
+pub const MOST: usize = 1048576;
 
 /// No file has this name; if one has, it is said.
 pub fn is_free(rt: &HostRuntime, name: &[u8]) -> bool {
@@ -25,6 +28,27 @@ pub fn is_free(rt: &HostRuntime, name: &[u8]) -> bool {
             false
         }
     }
+}
+
+/// How many bytes a file has, read to the front; 0 where there is nothing to salvage, which is said.
+pub fn read(rt: &HostRuntime, name: &[u8], bytes: &mut [u8; MOST]) -> usize
+    ensures { result ≤ 1048576 }
+{
+    let w = files::read(
+        rt,
+        b"salvage",
+        name,
+        bytes,
+        b" has more than 1,048,576 bytes",
+    );
+    if !w.read {
+        return 0;
+    }
+    if w.count == 0 {
+        said::wrong(rt, name, b" is empty");
+        return 0;
+    }
+    w.count
 }
 
 /// The fresh file's name with `.part` behind it; where that is too long for a name, more bytes than a name has.

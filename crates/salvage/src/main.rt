@@ -13,12 +13,10 @@ mod list;
 mod said;
 mod words;
 
+use fresh::MOST;
 use list::WORDS;
 use remains::{SalvageAnswer, Salvaged};
 use std::io;
-
-/// The most bytes of a damaged file. The longest tour has 147,466, skipped fields aside.
-const MOST: usize = 1048576;
 
 /// The most bytes of a fresh file: it has a first and a last field, if the damaged one has neither.
 const OUT: usize = 1048586;
@@ -73,19 +71,8 @@ fn salvage(rt: &HostRuntime, damaged: &[u8], file: &[u8], fresh: &[u8]) -> io::R
 
 /// Reads the damaged file.
 fn read(rt: &HostRuntime, damaged: &[u8], fresh: &[u8], bytes: &mut [u8; MOST]) -> io::Result<()> {
-    let w = files::read(
-        rt,
-        b"salvage",
-        damaged,
-        bytes,
-        b" has more than 1,048,576 bytes",
-    );
-    if !w.read {
-        return Ok(());
-    }
-    let n = w.count;
+    let n = fresh::read(rt, damaged, bytes);
     if n == 0 {
-        said::wrong(rt, damaged, b" is empty");
         return Ok(());
     }
     let whole: &[u8] = bytes;
