@@ -1,4 +1,4 @@
-//! The calls for C and Rust: a session without enums, by value in and out, and an exported function for each call.
+//! The calls for C and Rust: a session without enums, by value in and out, and a function for each call, which `host_c` exports.
 #![tactic(auto)]
 
 ghost use Rattle.std.specs.Prelude.{◌≡◌, ◌&&◌, List, map, ℕ, ◌<◌, Float};
@@ -670,6 +670,7 @@ fn snapshot_numbers(x: PerformanceSnapshot) -> HostSnapshot
 // ---- answers
 
 /// A refused call hands back the very session that came; 15 alone raises its dropped count.
+#[tactic(auto, unfolding(crate::specs::Answers::turned))]
 fn turned(number: u32, h: HostSession) -> HostSession
     ensures { result ≡ turned number h }
 {

@@ -106,6 +106,7 @@ fn what_at(file: &[u8], p: Progress) -> u64
 // ---- the walk, one range at a time
 
 /// Where the bytes that are dropped side by side end.
+#[tactic(auto, using(crate::proofs::Runs::run_stop, crate::proofs::Runs::run_on))]
 fn run_end(file: &[u8], p: Progress) -> usize
     requires { p.at ≤ length file.now }
     ensures { result ≡ run_end (length file.now) file.now p }
