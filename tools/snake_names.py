@@ -3,9 +3,10 @@
 
 usage: python3 tools/snake_names.py [--list]     at the top of a repository that port.py has turned
 
-A definition, lemma, field or constructor `someName` or `some-name` becomes `some_name`, wherever it stands: in specs/, proofs/,
-the contracts of src/, must-fail edits and docs/TRACE.md. Types, modules, Rust's names, strings and the names of goals stay.
-It refuses to run where two names would fall together, or a new name stands already in a file that has the old one.
+A definition, lemma, field or constructor `someName` or `some-name` becomes `some_name`, wherever it stands in crates/: in
+specs/, proofs/, the contracts of src/ and must-fail edits. Types, modules, Rust's names, strings and the names of goals stay;
+pages are left, and a string of several lines, whose words are turned, is looked at by hand. It refuses to run where two names
+would fall together, or a new name stands already in a file that has the old one.
 """
 
 import os
@@ -15,7 +16,7 @@ import sys
 ROOT = "crates"
 OWN = tuple(f"Rattle.{crate}." for crate in os.listdir(ROOT))
 WORD = r"[^\s(){}\[\];,.\"`@:]+"
-DECLARED = re.compile(r"^\s*(?:abbrev |unfoldable |transparent |inline )*(?:pub )?(?:pub )?(" + WORD + r") : ", re.M)
+DECLARED = re.compile(r"^\s*(?:abbrev |unfoldable )*(?:pub )?(" + WORD + r") : ", re.M)
 STRING = re.compile(r'"(?:[^"\\\n]|\\.)*"')
 TOKEN = re.compile(WORD)
 USED = re.compile(r"^(?:ghost )?use ([^\s{]+)\.\{([^}]*)\}", re.M)

@@ -25,17 +25,14 @@ def plain(name):
 
 
 def goal_key(name):
-    key = plain(name)
-    for front in ("overflow_",):
-        key = key.removeprefix(front)
-    return key
+    return plain(name).removeprefix("overflow_")
 
 
 class Function:
     def __init__(self, entry, args):
         self.steps = {}
         self.doubtful = set()
-        for place, parent, (old, new), *rest in entry["places"]:
+        for _, _, (old, new), *_ in entry["places"]:
             if old:
                 key = plain(old)
                 if self.steps.get(key, new) != new:
@@ -99,7 +96,7 @@ def declarations(text):
             now.append(line)
     if now is not None:
         out.append(now)
-    return head, out, comment
+    return head, out
 
 
 def strip(lines):
@@ -117,15 +114,14 @@ def inlined(block):
     return block
 
 
-def turn(path, module, f, where, said):
+def turn(path, module, f, said):
     with open(path, encoding="utf-8") as it:
         text = it.read()
-    head, decls, _ = declarations(text)
-    invariants, answers, names = [], [], {}
-    kept = []
+    head, decls = declarations(text)
+    invariants, kept, names = [], [], {}
     for d in decls:
         k = next(i for i, l in enumerate(d) if SIGNATURE.match(l))
-        marks, pub, name, kind = SIGNATURE.match(d[k]).groups()
+        _, _, name, kind = SIGNATURE.match(d[k]).groups()
         body = strip(d[k + 1 :])
         m = re.match(r"tie\.(invariant|decreases)-(" + NAME + ")", kind)
         if m:
@@ -165,13 +161,14 @@ def turn(path, module, f, where, said):
             clause = " ".join(l.strip() for l in body)
             if re.fullmatch(re.escape(name) + r"(?: \S+)* = search rules", clause):
                 continue
-            kept.append((d[:k], new, name, body, True, None))
+            kept.append((d[:k], new, body))
             continue
         if any("tie.close" in l for l in body) or "statement" in kind:
             continue
-        kept.append((d[:k], None, name, d[k:] if True else body, False, None))
+        # a helper of its own, which is no goal
+        kept.append((d[:k], None, d[k:]))
     out = []
-    for above, new, name, body, is_goal, _ in kept:
+    for above, new, body in kept:
         block = "\n".join(strip(body))
         block = re.sub(r"\btie\.(" + NAME + r")((?: (?:invariant|decreases)-" + NAME + ")*)", lambda m: "goal." + f.places.get(m.group(1), m.group(1)), block)
         block = f.paths(block)
@@ -182,10 +179,10 @@ def turn(path, module, f, where, said):
         block = re.sub(r"\bap not \(sym (c\.[\w.-]+)\) ∙ (c\.if-not-[\w-]+\.(?:true|false))", r"ap not (sym \1 ∙ \2)", block)
         block = re.sub(r"\bc\.in_default\.rest\b", "c.in_default.in_default-own.rest", block)
         block = re.sub(r"\bsym \(length-map [\w.()]+ _\) ∙ [\w().]*\.well_formed(?:\.\d+)+", "omega arith", block)
-        if is_goal:
+        if new:
             block = re.sub("^" + re.escape(new) + r" (\S+) κs", lambda m: f"{new} {m.group(1)}", block, flags=re.M)
-            block = "\n".join([*above, f"pub {new} : goal.{new}", block])
-        out.append(block)
+            block = f"pub {new} : goal.{new}\n{block}"
+        out.append("\n".join([*above, block]))
         for key in f.doubtful:
             if re.search(r"\." + re.escape(f.steps[key]) + r"\b", block):
                 said.append(f"{path}: which step is {key}?")
@@ -208,7 +205,7 @@ def turn(path, module, f, where, said):
 
 def parameters(where, inner):
     """The names of a function's parameters, in order."""
-    *modules, name = inner.split(".")
+    name = inner.split(".")[-1]
     texts = [open(os.path.join(a, f), encoding="utf-8").read() for a, _, fs in os.walk(os.path.join(where, "src")) for f in sorted(fs)]
     for text in texts:
         m = re.search(r"fn " + re.escape(name) + r"\(([^)]*)\)", text)
@@ -238,7 +235,7 @@ def main(crate, only):
             continue
         if "tie" not in open(path, encoding="utf-8").read():
             continue
-        turn(path, f"{crate}.proofs.{inner}", Function(entry, parameters(where, inner)), where, said)
+        turn(path, f"{crate}.proofs.{inner}", Function(entry, parameters(where, inner)), said)
     print("\n".join(said))
     left = [os.path.join(a, "Proof.antt") for a, _, fs in os.walk(os.path.join(where, "proofs")) if "Proof.antt" in fs]
     print("left:", *left)
