@@ -9,6 +9,7 @@ use native.Mathlib.Numerals.{add-one}
 use native.Mathlib.Omega.{arith}
 use lib.Dec.{ltb}
 use lib.ListN.{get_or, set}
+use Rattle.std.specs.Prelude.{Option}
 use lib.Ieee.{Float, binary32, nan, add, mul}
 use borrow.Author.Tests.{eq-eqb, ne_eqb}
 use Rattle.transport.specs.declared.Transport.{Transport}
@@ -21,7 +22,6 @@ use Rattle.oneshot.specs.Pair.{pair}
 use Rattle.stage.specs.declared.Settings.{Settings}
 use Rattle.stage.specs.declared.Tail.{Tail}
 use Rattle.stage.specs.Mode.{is_house}
-use Rattle.sweeps.specs.declared.Part.{Part}
 use Rattle.sweeps.specs.Over.{over}
 use Rattle.sweeps.specs.Adds.{share_of, ticks_of, gain_at}
 use Rattle.sweeps.proofs.Over.{lt_or_ge, over_past, over_same}
@@ -159,7 +159,7 @@ module _ (pool : List Float) (x : Settings) (song clip : Clip) (c : Core) (n : �
       ap (λ p. add binary32 (side k p) y) e ∙ ap (λ a. add binary32 a y) (side_at leads k)
 
   -- with the parts of the pool
-  over_adds_law : (u : Tail) (p : Part) (a y : Float) (k : ℕ) → Fading clip.frames n u → k < n * 2 → share_of pool p k ≡ a
+  over_adds_law : (u : Tail) (p : Option ℕ) (a y : Float) (k : ℕ) → Fading clip.frames n u → k < n * 2 → share_of pool p k ≡ a
       → over_adds (is_house x) pool p clip c.master u k y ≡ add binary32 (tail_adds t x (gain_at c.master (k / 2)) u k (mul binary32 a (gain_at c.master (k / 2)))) y
   over_adds_law Tail.None p a y k f lt e = ap (λ b. add binary32 y (mul binary32 b (gain_at c.master (k / 2)))) e ∙ add_swap binary32 y (mul binary32 a (gain_at c.master (k / 2)))
   over_adds_law (Tail.Sounding i d w) p a y k f lt e =

@@ -1,12 +1,12 @@
 -- The sums of a run: voice after voice over all its places is, at each place, voice after voice. Assumes nothing.
 use mathlib.Core.Path.{◌≡◌, refl, sym, ap, ◌∙◌}
-use mathlib.Core.Bool.{true}
 use mathlib.Core.List.{List, [], ◌∷◌, ◌++◌, map, map-append}
 use Prim.Native.Nat.{ℕ, zero, suc, ◌+◌, ◌-◌, ◌*◌, ◌/◌, ◌≤◌, ◌<◌}
 use native.Mathlib.Numerals.{add-one}
 use native.Mathlib.Omega.{arith}
 use lib.ListN.{length, get_or, take, drop, set, length-map, length-set}
 use lib.Seq.{take-suc, drop-cons, append_snoc, set_at, set-get_or, get_or-append-add, get_or-drop, length-take-le}
+use Rattle.std.specs.Prelude.{Some}
 use lib.Ieee.{Float, nan, binary32, add, mul}
 use Rattle.bank.specs.declared.Clip.{Clip}
 use Rattle.bank.specs.Recording.{Recording, View, recording_of}
@@ -24,10 +24,10 @@ use Rattle.runs.specs.Voices.{voice_by, LastsIn, Still, stream_of, share_in, voi
 
 -- a part that sounds is the clip from the voice's head on
 pub voice_sweep : (pool : List Float) (c : Clip) (v : Voice) (n : ℕ) (os : List Float) → v.head.0 + n * 2 < c.frames * 2
-    → over (adds pool (record { on = true; at = c.start * 2 + v.head.0 }) v.gain) 0 (n * 2) os ≡ voice_on pool c n v os
+    → over (adds pool (Some (c.start * 2 + v.head.0)) v.gain) 0 (n * 2) os ≡ voice_on pool c n v os
 unfolding share_of share_in
 voice_sweep pool c v n os h =
-    over_same (adds pool (record { on = true; at = c.start * 2 + v.head.0 }) v.gain) (voice_adds (recording_of pool c) v) 0 os (n * 2)
+    over_same (adds pool (Some (c.start * 2 + v.head.0)) v.gain) (voice_adds (recording_of pool c) v) 0 os (n * 2)
     (λ k a b x.
     let e : c.start * 2 + v.head.0 + k ≡ c.start * 2 + (v.head.0 + k) = omega arith in
     ap (λ y. add binary32 x (mul binary32 y (gain_at v.gain (k / 2)))) (ap (λ i. heard_of (get_or pool i nan)) e ∙ sym (place_inside pool c (v.head.0 + k) (omega arith))))
@@ -37,9 +37,9 @@ pub still_sweep : (pool : List Float) (c : Clip) (v : Voice) (n : ℕ) (os : Lis
     → over (stream_adds pool (stream_of v c)) 0 (n * 2) os ≡ voice_on pool c n v os
 unfolding ticks_of
 still_sweep pool c v n os r h =
-    over_same (stream_adds pool (stream_of v c)) (adds pool (record { on = true; at = c.start * 2 + v.head.0 }) v.gain) 0 os (n * 2)
+    over_same (stream_adds pool (stream_of v c)) (adds pool (Some (c.start * 2 + v.head.0)) v.gain) 0 os (n * 2)
     (λ k a b x.
-    ap (λ g. add binary32 x (mul binary32 (share_of pool (record { on = true; at = c.start * 2 + v.head.0 }) k) g)) (sym (gain_landed 0 (k / 2) v.gain (omega (arith, r)) (omega arith))))
+    ap (λ g. add binary32 x (mul binary32 (share_of pool (Some (c.start * 2 + v.head.0)) k) g)) (sym (gain_landed 0 (k / 2) v.gain (omega (arith, r)) (omega arith))))
     ∙ voice_sweep pool c v n os h
 
 -- four of them

@@ -1,5 +1,5 @@
 -- A run of a core: frames in which nothing is decided anew. Where it leads, and what it adds at each place. Definitions only.
-use Rattle.std.specs.Prelude.{ℕ, ◌+◌, ◌*◌, ◌≤◌, ◌<◌, ◌^◌, ◌≡◌, Bool, true, false, cond, List, ltb, length, Float}
+use Rattle.std.specs.Prelude.{ℕ, ◌+◌, ◌*◌, ◌≤◌, ◌<◌, ◌^◌, ◌≡◌, Bool, true, cond, List, ltb, length, Float, Option, Some, None}
 use Rattle.counts.specs.declared.Handle.{Handle}
 use Rattle.ramp.specs.declared.Ramp.{Ramp}
 use Rattle.transport.specs.declared.Transport.{Transport}
@@ -10,7 +10,6 @@ use Rattle.bank.specs.Slots.{extent_of}
 use Rattle.oneshot.specs.Sounding.{LiesIn}
 use Rattle.stage.specs.declared.Tail.{Tail}
 use Rattle.stage.specs.Playhead.{playhead}
-use Rattle.sweeps.specs.declared.Part.{Part}
 use Rattle.sweeps.specs.Adds.{ticks_of, adds, both_adds, Reads}
 use Rattle.runs.specs.declared.Core.{Core}
 
@@ -66,24 +65,20 @@ pub record Calm (x y : Clip) (n : ℕ) (c : Core) : Type 0 where
 
 -- ---- which part of the pool they read, and what they add
 
--- none
-abbrev pub silent : Part
-silent = record { on = false; at = 0 }
-
 -- a clip from a cursor on; past the clip silence
-abbrev pub part_of : Clip → ℕ → Part
-part_of x c = cond (ltb c x.frames) (record { on = true; at = (x.start + c) * 2 }) silent
+abbrev pub part_of : Clip → ℕ → Option ℕ
+part_of x c = cond (ltb c x.frames) (Some ((x.start + c) * 2)) None
 
 -- the song, if it plays
-abbrev pub song_part : Clip → Transport → Part
-song_part x t = cond (is_playing t.state) (part_of x t.cursor.0) silent
+abbrev pub song_part : Clip → Transport → Option ℕ
+song_part x t = cond (is_playing t.state) (part_of x t.cursor.0) None
 
 -- song and tail over the sums, where the tail's clip is x
-abbrev pub over_adds : Bool → List Float → Part → Clip → Ramp → Tail → ℕ → Float → Float
+abbrev pub over_adds : Bool → List Float → Option ℕ → Clip → Ramp → Tail → ℕ → Float → Float
 over_adds house pool s x g Tail.None = adds pool s g
 over_adds house pool s x g (Tail.Sounding h c w) = both_adds house pool s (part_of x c.0) g w
 
-pub record OverReady (pool : List Float) (s : Part) (x : Clip) (n out : ℕ) (t : Tail) : Type 0 where
+pub record OverReady (pool : List Float) (s : Option ℕ) (x : Clip) (n out : ℕ) (t : Tail) : Type 0 where
   pub room : n * 2 ≤ out
   pub song : Reads (length pool) s (n * 2)
   pub clip : LiesIn (length pool) x

@@ -21,7 +21,7 @@ use counts::{ClockFrame, Handle, SamplePlace, SongFrame};
 use oneshot::{Pair, Voice, Voices};
 use ramp::Ramp;
 use stage::{Fade, Playhead, Settings, Sound, Stage, Tail};
-use sweeps::{Part, Stream};
+use sweeps::Stream;
 use transport::{LoopRange, Transport};
 
 /// So many frames of a voice whose clip has more: each adds its share.
@@ -33,9 +33,8 @@ fn voice_on(v: Voice, pool: &[f32], clip: Clip, out: &mut [f32], frames: usize) 
     let head = v.head.0;
     let start = (clip.start * 2) as usize;
     let at = start + head;
-    let part = Part { on: true, at: at };
     let ramp = v.gain;
-    let gain = sweeps::add_part(pool, part, out, frames, ramp);
+    let gain = sweeps::add_part(pool, Some(at), out, frames, ramp);
     let next = head + frames * 2;
     Voice {
         handle: handle,
@@ -228,20 +227,20 @@ fn mix_on(voices: Voices, pool: &[f32], bank: Bank, out: &mut [f32], frames: usi
 // ---- a run of song and tail
 
 /// A clip from a cursor on; past the clip silence.
-fn part_of(clip: Clip, cursor: SongFrame) -> Part
+fn part_of(clip: Clip, cursor: SongFrame) -> Option<usize>
     requires { (clip.start + clip.frames) * 2 < 9223372036854775808 }
     ensures { result ≡ part_of clip cursor.0 }
 {
     let c = cursor.0;
     if c < clip.frames {
         let at = ((clip.start + c) * 2) as usize;
-        return Part { on: true, at: at };
+        return Some(at);
     }
-    Part { on: false, at: 0 }
+    None
 }
 
 /// The song, if it plays.
-fn song_part(clip: Clip, t: Transport) -> Part
+fn song_part(clip: Clip, t: Transport) -> Option<usize>
     requires { (clip.start + clip.frames) * 2 < 9223372036854775808 }
     ensures { result ≡ song_part clip t }
 {
@@ -250,7 +249,7 @@ fn song_part(clip: Clip, t: Transport) -> Part
         let cursor = t.cursor;
         return part_of(clip, cursor);
     }
-    Part { on: false, at: 0 }
+    None
 }
 
 /// A cursor so many frames on, in which it does not pass its clip's end.
@@ -299,7 +298,7 @@ struct Over {
 fn over_sums(
     house: bool,
     pool: &[f32],
-    song: Part,
+    song: Option<usize>,
     clip: Clip,
     master: Ramp,
     fade: Fade,

@@ -9,14 +9,14 @@ use lib.ListN.{length, get_or, set}
 use lib.Ieee.{Float, nan, binary32, add, mul}
 use Rattle.ramp.specs.declared.Ramp.{Ramp}
 use Rattle.ramp.specs.Ramp.{tick_of}
-use Rattle.sweeps.specs.declared.Part.{Part}
+use Rattle.std.specs.Prelude.{Option}
 use Rattle.sweeps.specs.Over.{over}
 use Rattle.sweeps.specs.Adds.{share_of, ticks_of, gain_at, under_of, both_by, both_adds, still_both}
 use Rattle.sweeps.proofs.Over.{length_over, over_rest}
 use Rattle.sweeps.proofs.Moving.{Moving, moving_start, moving_gain, moving_turn, moving_end, frame_left, frame_right}
 use Rattle.sweeps.proofs.Ticks.{ticks_on, ticks_add, gain_add, ticks_remaining, ticks_held, gain_held}
 
-module _ (house : Bool) (pool : List Float) (s t : Part) where
+module _ (house : Bool) (pool : List Float) (s t : Option ℕ) where
   -- a frame of a stretch
   pub still_turn : (from to : ℕ) (a : Float) (w₀ : Ramp) (os : List Float) {o : List Float} {w : Ramp} {j : ℕ} → Moving (still_both house pool s t from a w₀) w₀ from to os o w j → j < to
       → (x y z v : Float) → x ≡ share_of pool s (j * 2) → y ≡ under_of house a (share_of pool t (j * 2)) → z ≡ share_of pool s (j * 2 + 1) → v ≡ under_of house a (share_of pool t (j * 2 + 1))

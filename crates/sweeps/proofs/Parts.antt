@@ -8,14 +8,19 @@ use lib.ListN.{get_or, set}
 use lib.Ieee.{Float, nan, binary32, add, mul}
 use Rattle.ramp.specs.declared.Ramp.{Ramp}
 use Rattle.ramp.specs.Ramp.{tick_of}
-use Rattle.sweeps.specs.declared.Part.{Part}
+use Rattle.std.specs.Prelude.{Option, Some, None}
 use Rattle.sweeps.specs.Over.{over}
-use Rattle.sweeps.specs.Adds.{share_of, ticks_of, gain_at, still_adds, adds}
+use Rattle.sweeps.specs.Adds.{share_of, ticks_of, gain_at, still_adds, adds, Reads}
 use Rattle.sweeps.proofs.Over.{over_rest}
 use Rattle.sweeps.proofs.Moving.{Moving, moving_gain, moving_turn, frame_left, frame_right}
 use Rattle.sweeps.proofs.Ticks.{ticks_on, ticks_held, gain_held}
 
-module _ (pool : List Float) (p : Part) (r₀ : Ramp) (n : ℕ) (os : List Float) where
+-- of a part that has so many samples, fewer can be read
+pub fewer_read : (n : ℕ) (p : Option ℕ) (m k : ℕ) → k ≤ m → Reads n p m → Reads n p k
+fewer_read n None m k l h = tt
+fewer_read n (Some at) m k l h = omega arith
+
+module _ (pool : List Float) (p : Option ℕ) (r₀ : Ramp) (n : ℕ) (os : List Float) where
   pub part_turn : {o : List Float} {r : Ramp} {j : ℕ} → Moving (adds pool p r₀) r₀ 0 n os o r j → j < n
       → (x y : Float) → x ≡ share_of pool p (j * 2) → y ≡ share_of pool p (j * 2 + 1) → (r' : Ramp) → r' ≡ (tick_of r).ramp
       → let o' : List Float = set o (j * 2) (add binary32 (get_or o (j * 2) nan) (mul binary32 x r'.value)) in

@@ -8,23 +8,16 @@ ghost use Rattle.sweeps.specs.Adds.{share_of, ticks_of, still_adds, stream_adds,
 
 use ramp::Ramp;
 
-/// Where in the pool a run's samples stand, or that it is silent.
-#[derive(Clone, Copy)]
-pub struct Part {
-    pub on: bool,
-    pub at: usize,
-}
-
-/// The sample of a part at a place of the run, as heard.
-fn share(pool: &[f32], part: Part, k: usize) -> f32
+/// The sample of a part at a place of the run, as heard. A part is where in the pool a run's samples stand; without one it is
+/// silent.
+fn share(pool: &[f32], part: Option<usize>, k: usize) -> f32
     requires { Reads (length pool.now) part (k + 1) }
     ensures { result ≡ share_of pool.now part k }
 {
-    if part.on {
-        let at = part.at + k;
-        return oneshot::heard(pool[at]);
+    match part {
+        Some(at) => oneshot::heard(pool[at + k]),
+        None => 0.0,
     }
-    0.0
 }
 
 /// The places below `to` become +0.0.
@@ -40,7 +33,7 @@ pub fn clear(out: &mut [f32], to: usize)
 }
 
 /// A part × a gain that stands still is added, from a place to a place.
-fn add_still(pool: &[f32], part: Part, out: &mut [f32], from: usize, to: usize, gain: f32)
+fn add_still(pool: &[f32], part: Option<usize>, out: &mut [f32], from: usize, to: usize, gain: f32)
     requires { (from ≤ to) × (to ≤ length out.old) × Reads (length pool.now) part to }
     ensures { out.new ≡ over (still_adds pool.now part gain) from (to - from) out.old }
 {
@@ -64,8 +57,7 @@ fn add_stream(pool: &[f32], s: Stream, k: usize, x: f32) -> f32
     requires { s.at + k < length pool.now }
     ensures { result ≡ stream_adds pool.now s k x }
 {
-    let part = Part { on: true, at: s.at };
-    let y = share(pool, part, k);
+    let y = share(pool, Some(s.at), k);
     x + y * s.gain
 }
 
@@ -104,7 +96,7 @@ fn rise(mut r: Ramp) -> Ramp
 }
 
 /// A part × a ramp that does not land is added to so many frames. The ramp that they leave.
-fn add_rising(pool: &[f32], part: Part, out: &mut [f32], frames: usize, ramp: Ramp) -> Ramp
+fn add_rising(pool: &[f32], part: Option<usize>, out: &mut [f32], frames: usize, ramp: Ramp) -> Ramp
     requires { (frames * 2 ≤ length out.old) × Reads (length pool.now) part (frames * 2) × (frames ≤ ramp.remaining - 1) }
     ensures { (result ≡ ticks_of frames ramp) × (out.new ≡ over (adds pool.now part ramp) 0 (frames * 2) out.old) }
 {
@@ -140,7 +132,13 @@ fn rises(ramp: Ramp, frames: usize) -> usize
 }
 
 /// A part × a ramp is added to so many frames: first where it moves and does not land, then where its value stays. The ramp that they leave.
-pub fn add_part(pool: &[f32], part: Part, out: &mut [f32], frames: usize, ramp: Ramp) -> Ramp
+pub fn add_part(
+    pool: &[f32],
+    part: Option<usize>,
+    out: &mut [f32],
+    frames: usize,
+    ramp: Ramp,
+) -> Ramp
     requires { (frames * 2 ≤ length out.old) × Reads (length pool.now) part (frames * 2) }
     ensures { (result ≡ ticks_of frames ramp) × (out.new ≡ over (adds pool.now part ramp) 0 (frames * 2) out.old) }
 {
@@ -172,8 +170,8 @@ fn under(house: bool, gain: f32, tail: f32) -> f32
 fn add_both_still(
     house: bool,
     pool: &[f32],
-    song: Part,
-    tail: Part,
+    song: Option<usize>,
+    tail: Option<usize>,
     out: &mut [f32],
     from: usize,
     to: usize,
@@ -224,8 +222,8 @@ pub struct Gains {
 pub fn add_both(
     house: bool,
     pool: &[f32],
-    song: Part,
-    tail: Part,
+    song: Option<usize>,
+    tail: Option<usize>,
     out: &mut [f32],
     frames: usize,
     master: Ramp,

@@ -3,6 +3,7 @@ use mathlib.Core.Path.{ap}
 use native.Mathlib.Omega.{arith}
 use Rattle.sweeps.proofs.Moving.{moving_remaining}
 use Rattle.sweeps.proofs.Both.{both_start, both_turn, both_end}
+use Rattle.sweeps.proofs.Parts.{fewer_read}
 use Rattle.sweeps.proofs.add_both.Goals as goal
 
 pub loop-j-init : goal.loop-j-init
@@ -13,7 +14,7 @@ add_both_still-w-requires c =
     let p = c.requires in
     let i = c.loop-j.invariant.moving in
     let e = c.stays_to-to.ensures in
-    (omega (arith, e.0), omega (arith, e.1, i.sweeping.same, p.0), λ o. omega (arith, e.1, p.1 o), λ o. omega (arith, e.1, p.2 o), omega (arith, e, moving_remaining _ _ _ _ _ i, p.3))
+    (omega (arith, e.0), omega (arith, e.1, i.sweeping.same, p.0), fewer_read _ _ _ _ (omega (arith, e.1)) p.1, fewer_read _ _ _ _ (omega (arith, e.1)) p.2, omega (arith, e, moving_remaining _ _ _ _ _ i, p.3))
 
 pub loop-j-smaller : goal.loop-j-smaller
 loop-j-smaller c = omega (arith, c.stays_to-to.ensures, c.loop-j-test.true)

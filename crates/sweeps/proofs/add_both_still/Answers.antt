@@ -5,6 +5,7 @@ use native.Mathlib.Omega.{arith}
 use Rattle.sweeps.specs.Adds.{under_of}
 use Rattle.sweeps.proofs.Moving.{moving_start, moving_remaining, moving_end}
 use Rattle.sweeps.proofs.Both.{still_turn}
+use Rattle.sweeps.proofs.Parts.{fewer_read}
 use Rattle.sweeps.proofs.add_both_still.Goals as goal
 
 pub loop-j-init : goal.loop-j-init
@@ -14,16 +15,16 @@ pub rise-next-requires : goal.rise-next-requires
 rise-next-requires c = omega (arith, moving_remaining _ _ _ _ _ c.loop-j.invariant, c.loop-j.invariant.sweeping.low, c.loop-j-test.true, c.requires.4)
 
 pub share-x-requires : goal.share-x-requires
-share-x-requires c = λ e. omega (arith, c.loop-j-test.true, c.requires.2 e)
+share-x-requires c = fewer_read _ _ _ _ (omega (arith, c.loop-j-test.true)) c.requires.2
 
 pub share-requires : goal.share-requires
-share-requires c = λ e. omega (arith, c.loop-j-test.true, c.requires.3 e)
+share-requires c = fewer_read _ _ _ _ (omega (arith, c.loop-j-test.true)) c.requires.3
 
 pub share-z-requires : goal.share-z-requires
-share-z-requires c = λ e. omega (arith, c.loop-j-test.true, c.requires.2 e)
+share-z-requires c = fewer_read _ _ _ _ (omega (arith, c.loop-j-test.true)) c.requires.2
 
 pub share-requires-in-loop-j : goal.share-requires-in-loop-j
-share-requires-in-loop-j c = λ e. omega (arith, c.loop-j-test.true, c.requires.3 e)
+share-requires-in-loop-j c = fewer_read _ _ _ _ (omega (arith, c.loop-j-test.true)) c.requires.3
 
 pub bounds-out-n : goal.bounds-out-n
 bounds-out-n c = simp length-set (omega (arith, c.loop-j.invariant))

@@ -3,7 +3,7 @@ use lib.ListN.{length-set}
 use native.Mathlib.Numerals.{unary_clauses}
 use native.Mathlib.Omega.{arith}
 use Rattle.sweeps.proofs.Moving.{moving_start, moving_remaining, moving_end}
-use Rattle.sweeps.proofs.Parts.{part_turn}
+use Rattle.sweeps.proofs.Parts.{fewer_read, part_turn}
 use Rattle.sweeps.proofs.add_rising.Goals as goal
 
 pub loop-j-init : goal.loop-j-init
@@ -13,10 +13,10 @@ pub rise-next-requires : goal.rise-next-requires
 rise-next-requires c = omega (arith, moving_remaining _ _ _ _ _ c.loop-j.invariant, c.loop-j-test.true, c.requires.2)
 
 pub share-x-requires : goal.share-x-requires
-share-x-requires c = λ e. omega (arith, c.loop-j-test.true, c.requires.1 e)
+share-x-requires c = fewer_read _ _ _ _ (omega (arith, c.loop-j-test.true)) c.requires.1
 
 pub share-y-requires : goal.share-y-requires
-share-y-requires c = λ e. omega (arith, c.loop-j-test.true, c.requires.1 e)
+share-y-requires c = fewer_read _ _ _ _ (omega (arith, c.loop-j-test.true)) c.requires.1
 
 pub bounds-out-n : goal.bounds-out-n
 bounds-out-n c = simp length-set (omega (arith, c.loop-j.invariant))

@@ -4,7 +4,7 @@ use native.Mathlib.Omega.{arith}
 use Rattle.sweeps.proofs.add_stream.Goals as goal
 
 pub share-y-requires : goal.share-y-requires
-share-y-requires c = λ e. omega (arith, c.requires)
+share-y-requires c = omega (arith, c.requires)
 
 pub returns : goal.returns
 returns c = rw c.share-y.ensures refl
