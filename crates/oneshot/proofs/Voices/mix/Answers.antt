@@ -1,29 +1,7 @@
--- `oneshot::Voices::mix` meets its contract, by the walk of `proofs/Walk.antt`. Assumes nothing.
-use native.Mathlib.Omega.{arith}
-use lib.Ieee.{of_bits}
-use Rattle.oneshot.specs.Mix.{mix_in}
-use Rattle.oneshot.proofs.Walk.{start, its, gone, stays, ends}
+-- `oneshot::Voices::mix` meets its contract: the frame of the voices that sound is the table's. Assumes nothing.
+use Rattle.bank.specs.Recording.{view_of}
+use Rattle.oneshot.proofs.Lent.{lent_back}
 use Rattle.oneshot.proofs.Voices.mix.Goals as goal
-use Rattle.oneshot.proofs.Voices.mix.Goals.{then-s, else-s}
-
-pub loop-i-init : goal.loop-i-init
-unfolding of_bits
-loop-i-init c =
-    start _ _ c.args.self (omega arith) (omega (arith, c.requires.few)) c.requires.each
-
-pub sound-s-requires : goal.sound-s-requires
-sound-s-requires c = its _ _ c.loop-i.invariant _ c.loop-i-test.true
-
-pub loop-i-preserved : goal.loop-i-preserved
-loop-i-preserved c =
-    let g = c.loop-i.invariant in
-    let h = c.loop-i-test.true in
-    let e = c.sound-s.ensures in
-    elim c.if-s.branch [
-      | then-s w ↦ rw (w.table-is, w.kept-is, e) (stays _ _ g _ h (rw e at w.if-s.true))
-      | else-s w ↦ rw (w.table-is, w.kept-is, e) (gone _ _ g _ h (rw e at w.if-s.false))
-    ]
 
 pub returns : goal.returns
-unfolding mix_in
-returns c = ends _ _ c.args.self c.loop-i.invariant c.loop-i-test.false
+returns c = lent_back (view_of c.args.pool.now c.args.bank) c.args.self c.requires.few _ c.mix_all-kept.ensures
