@@ -310,7 +310,7 @@ fn tail_holds(h: Handle, tail: Tail) -> bool
 {
     match tail {
         Tail::None => false,
-        Tail::Sounding(k, _, _) => h.same(k),
+        Tail::Sounding(k, _, _) => h == k,
     }
 }
 
@@ -324,7 +324,7 @@ fn voices_hold(h: Handle, voices: Voices) -> bool
     while i < count {
         let v = voices.table[i];
         let k = v.handle;
-        if h.same(k) {
+        if h == k {
             return true;
         }
         i += 1;
@@ -343,7 +343,7 @@ fn stage_holds(h: Handle, stage: Stage) -> bool
     let fade = sound.fade;
     let tail = fade.tail;
     let voices = sound.voices;
-    let by_song = h.same(song);
+    let by_song = h == song;
     let by_tail = tail_holds(h, tail);
     let by_voice = voices_hold(h, voices);
     by_song | by_tail | by_voice

@@ -142,7 +142,7 @@ fn tail(a: Tail, b: Tail) -> bool {
         },
         Tail::Sounding(h, c, w) => match b {
             Tail::None => false,
-            Tail::Sounding(k, d, v) => h.same(k) & frame(c, d) & gain(w, v),
+            Tail::Sounding(k, d, v) => (h == k) & frame(c, d) & gain(w, v),
         },
     }
 }
@@ -152,7 +152,7 @@ fn voice(a: Voice, b: Voice) -> bool {
     let hb = b.handle;
     let ga = a.gain;
     let gb = b.gain;
-    let handles = ha.same(hb);
+    let handles = ha == hb;
     let gains = gain(ga, gb);
     handles & gains & (a.head.0 == b.head.0)
 }
@@ -187,7 +187,7 @@ fn counters(a: Counters, b: Counters) -> bool {
 }
 
 fn handle(a: Handle, b: Handle) -> bool {
-    a.same(b)
+    a == b
 }
 
 fn stage(a: Stage, b: Stage) -> bool {

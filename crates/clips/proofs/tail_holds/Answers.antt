@@ -2,4 +2,4 @@
 use Rattle.clips.proofs.tail_holds.Goals as goal
 
 pub returns-in-Sounding : goal.returns-in-Sounding
-returns-in-Sounding c = simp (c.in-Sounding.is, c.same.ensures)
+returns-in-Sounding c = simp (c.in-Sounding.is, c.eq.ensures)

@@ -20,11 +20,11 @@ at h vs i d l = ap (λ (v : Voice). same_handle h v.handle) (get_d_any vs.table 
 pub loop-i-init : goal.loop-i-init
 loop-i-init c = (search rules, below_none _)
 
-pub returns-then-same : goal.returns-then-same
-returns-then-same c = sym (any_true _ _ c.loop-i.i c.loop-i-test.true (at c.args.h c.args.voices c.loop-i.i _ (omega arith) ∙ sym c.same.ensures ∙ c.if-same.true))
+pub returns-then-eq : goal.returns-then-eq
+returns-then-eq c = sym (any_true _ _ c.loop-i.i c.loop-i-test.true (at c.args.h c.args.voices c.loop-i.i _ (omega arith) ∙ sym c.eq.ensures ∙ c.if-eq.true))
 
 pub loop-i-preserved : goal.loop-i-preserved
-loop-i-preserved c = (search rules, below_more _ _ c.loop-i.invariant.1 (at c.args.h c.args.voices c.loop-i.i _ (omega arith) ∙ sym c.same.ensures ∙ c.if-same.false))
+loop-i-preserved c = (search rules, below_more _ _ c.loop-i.invariant.1 (at c.args.h c.args.voices c.loop-i.i _ (omega arith) ∙ sym c.eq.ensures ∙ c.if-eq.false))
 
 pub returns : goal.returns
 returns c = sym (any_false _ _ (λ k l. c.loop-i.invariant.1 k (omega arith)))
