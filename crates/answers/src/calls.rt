@@ -4,12 +4,10 @@ ghost use Rattle.std.specs.Prelude.{◌≤◌, length};
 use crate::lines::Line;
 use crate::told::{Seat, Told};
 use crate::{asked, marks, told};
-use block::BlockAnswered;
-use clips::LoadAnswered;
-use counts::SongFrame;
-use session::Session;
+use counts::{Handle, SongFrame};
+use session::{Answered, Session};
 use stage::{AS_TONO, Settings};
-use submission::ReplayAnswered;
+use submission::Report;
 
 const RATE: u32 = 48000;
 
@@ -78,7 +76,7 @@ fn open_song(
     made: &[f32],
     frames: u64,
     extent: u64,
-) -> LoadAnswered {
+) -> Answered<Handle> {
     let n = places(frames, made.len());
     let lasts = SongFrame(extent);
     clips::open(SETTINGS, queue, capture, pool, &made[..n], RATE, lasts)
@@ -104,7 +102,7 @@ fn load_clip(
     pool: &mut [f32],
     made: &[f32],
     l: Line,
-) -> LoadAnswered {
+) -> Answered<Handle> {
     let kind = asked::kind(l);
     let n = places(l.words[2], made.len());
     clips::load(s, queue, capture, pool, &made[..n], kind, RATE)
@@ -160,7 +158,7 @@ fn replay_listed(
     capture: &[u64],
     list: &[u64],
     listed: usize,
-) -> ReplayAnswered {
+) -> Answered<Report> {
     let n = lesser(listed, list.len());
     submission::replay(s, queue, capture, &list[..n])
 }
@@ -187,7 +185,7 @@ fn make(
     pool: &[f32],
     out: &mut [f32],
     n: usize,
-) -> BlockAnswered
+) -> Answered<u64>
     requires { n ≤ length out.old }
 {
     block::block(s, queue, capture, pool, &mut out[..n])

@@ -3,13 +3,11 @@ ghost use Rattle.std.specs.Prelude.{◌≤◌};
 
 use crate::asked;
 use crate::lines::Line;
-use block::{BlockAnswer, BlockAnswered};
-use clips::{LoadAnswer, LoadAnswered};
-use control::{PerformanceSnapshot, SnapshotAnswer, SnapshotAnswered, StopAnswer, StopAnswered};
-use counts::SongFrame;
+use control::PerformanceSnapshot;
+use counts::{Handle, SongFrame};
 use print::bits;
-use session::{Answer, Answered, Refusal, Session};
-use submission::{ReplayAnswer, ReplayAnswered, SubmitAnswer, SubmitAnswered};
+use session::{Answered, Refusal, Session};
+use submission::Report;
 use transport::{LoopRange, TransportState};
 
 /// A session, the snapshot that it took last, and how many words its last stop gave.
@@ -81,48 +79,48 @@ fn refused(l: Line, k: Refusal) -> Line {
 }
 
 /// After the numbers that ask.
-fn done(l: Line, a: Answer) -> Line {
+fn done(l: Line, a: Result<(), Refusal>) -> Line {
     match a {
-        Answer::Done => l,
-        Answer::Refused(k) => refused(l, k),
+        Ok(()) => l,
+        Err(k) => refused(l, k),
     }
 }
 
-pub fn answered(seat: Seat, l: Line, r: Answered) -> Told {
+pub fn answered(seat: Seat, l: Line, r: Answered<()>) -> Told {
     let a = r.answer;
     let s = r.session;
     stands(seat, s, done(asked::asking(l), a))
 }
 
 /// After the numbers that ask and a digest. A refused block tells a number too many, so that no passes are taken for it.
-fn filled(l: Line, a: BlockAnswer) -> Line {
+fn filled(l: Line, a: Result<u64, Refusal>) -> Line {
     match a {
-        BlockAnswer::Done(passes) => l.push(passes),
-        BlockAnswer::Refused(k) => refused(l.push(0), k),
+        Ok(passes) => l.push(passes),
+        Err(k) => refused(l.push(0), k),
     }
 }
 
-pub fn block(seat: Seat, l: Line, r: BlockAnswered, digest: u64) -> Told {
+pub fn block(seat: Seat, l: Line, r: Answered<u64>, digest: u64) -> Told {
     let a = r.answer;
     let s = r.session;
     stands(seat, s, filled(asked::asking(l).push(digest), a))
 }
 
-fn handle(l: Line, a: LoadAnswer) -> Line {
+fn handle(l: Line, a: Result<Handle, Refusal>) -> Line {
     match a {
-        LoadAnswer::Loaded(h) => l.push(h.slot as u64).push(h.serial as u64),
-        LoadAnswer::Refused(k) => refused(l, k),
+        Ok(h) => l.push(h.slot as u64).push(h.serial as u64),
+        Err(k) => refused(l, k),
     }
 }
 
-pub fn loaded(seat: Seat, l: Line, r: LoadAnswered) -> Told {
+pub fn loaded(seat: Seat, l: Line, r: Answered<Handle>) -> Told {
     let a = r.answer;
     let s = r.session;
     stands(seat, s, handle(asked::asking(l), a))
 }
 
 /// A session as it opens: no snapshot taken, nothing captured.
-pub fn seated(r: LoadAnswered) -> Seat {
+pub fn seated(r: Answered<Handle>) -> Seat {
     let session = r.session;
     let snapshot = PerformanceSnapshot {
         position: SongFrame(0),
@@ -137,59 +135,59 @@ pub fn seated(r: LoadAnswered) -> Seat {
     }
 }
 
-fn number(l: Line, a: SubmitAnswer) -> Line {
+fn number(l: Line, a: Result<u64, Refusal>) -> Line {
     match a {
-        SubmitAnswer::Queued(n) => l.push(0).push(n),
-        SubmitAnswer::Refused(k) => refused(l, k).push(0),
+        Ok(n) => l.push(0).push(n),
+        Err(k) => refused(l, k).push(0),
     }
 }
 
-pub fn submitted(seat: Seat, l: Line, r: SubmitAnswered) -> Told {
+pub fn submitted(seat: Seat, l: Line, r: Answered<u64>) -> Told {
     let a = r.answer;
     let s = r.session;
     stands(seat, s, number(asked::asking(l), a))
 }
 
-fn report(l: Line, a: ReplayAnswer) -> Line {
+fn report(l: Line, a: Result<Report, Refusal>) -> Line {
     match a {
-        ReplayAnswer::Replayed(r) => l
+        Ok(r) => l
             .push(r.taken as u64)
             .push(r.full as u64)
             .push(r.skipped as u64),
-        ReplayAnswer::Refused(k) => refused(l, k),
+        Err(k) => refused(l, k),
     }
 }
 
-pub fn replayed(seat: Seat, l: Line, r: ReplayAnswered) -> Told {
+pub fn replayed(seat: Seat, l: Line, r: Answered<Report>) -> Told {
     let a = r.answer;
     let s = r.session;
     stands(seat, s, report(asked::asking(l), a))
 }
 
 /// How many words a stop gave: five for a record.
-pub fn listed(r: StopAnswered) -> usize
+pub fn listed(r: Answered<usize>) -> usize
     ensures { result ≤ 20480 }
 {
     let a = r.answer;
     match a {
-        StopAnswer::Copied(n) => {
+        Ok(n) => {
             if n > 4096 {
                 return 20480;
             }
             n * 5
         }
-        StopAnswer::Refused(_) => 0,
+        Err(_) => 0,
     }
 }
 
-fn copied(l: Line, a: StopAnswer, digest: u64) -> Line {
+fn copied(l: Line, a: Result<usize, Refusal>, digest: u64) -> Line {
     match a {
-        StopAnswer::Copied(n) => l.push(n as u64).push(digest),
-        StopAnswer::Refused(k) => refused(l, k),
+        Ok(n) => l.push(n as u64).push(digest),
+        Err(k) => refused(l, k),
     }
 }
 
-pub fn stopped(mut seat: Seat, l: Line, r: StopAnswered, words: usize, digest: u64) -> Told {
+pub fn stopped(mut seat: Seat, l: Line, r: Answered<usize>, words: usize, digest: u64) -> Told {
     let a = r.answer;
     let s = r.session;
     seat.listed = words;
@@ -208,21 +206,21 @@ fn snapshot(l: Line, x: PerformanceSnapshot) -> Line {
 }
 
 /// The snapshot that is kept.
-fn kept(was: PerformanceSnapshot, a: SnapshotAnswer) -> PerformanceSnapshot {
+fn kept(was: PerformanceSnapshot, a: Result<PerformanceSnapshot, Refusal>) -> PerformanceSnapshot {
     match a {
-        SnapshotAnswer::Taken(x) => x,
-        SnapshotAnswer::Refused(_) => was,
+        Ok(x) => x,
+        Err(_) => was,
     }
 }
 
-fn taken(l: Line, a: SnapshotAnswer) -> Line {
+fn taken(l: Line, a: Result<PerformanceSnapshot, Refusal>) -> Line {
     match a {
-        SnapshotAnswer::Taken(x) => snapshot(l, x),
-        SnapshotAnswer::Refused(k) => refused(l, k),
+        Ok(x) => snapshot(l, x),
+        Err(k) => refused(l, k),
     }
 }
 
-pub fn snapped(mut seat: Seat, l: Line, r: SnapshotAnswered) -> Told {
+pub fn snapped(mut seat: Seat, l: Line, r: Answered<PerformanceSnapshot>) -> Told {
     let a = r.answer;
     let s = r.session;
     let was = seat.snapshot;

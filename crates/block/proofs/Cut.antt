@@ -22,11 +22,12 @@ use Rattle.stage.specs.Machine.{Told, FrameMade, machine_of}
 use Rattle.stage.proofs.Clock.{clocked}
 use Rattle.stage.proofs.Passes.{passes_append}
 use Rattle.session.specs.declared.Session.{Session}
-use Rattle.block.specs.declared.BlockAnswer.{BlockAnswer}
-use Rattle.block.specs.Block.{block_answered, ran_of, block_done, block_of, reported, blocks_of, joined}
+use Rattle.session.specs.Answer.{answered}
+use Rattle.block.specs.Block.{ran_of, block_done, block_of, reported, blocks_of, joined}
 use Rattle.block.proofs.Weigh.{Accepted, block_done_law}
 use Rattle.block.proofs.Kept.{block_came, block_keeps}
 use Rattle.block.proofs.Queue.{queue_ran}
+use Rattle.std.specs.Prelude.{Ok}
 
 module _ (s : Session) (q : List ℕ) (pool : List Float) where
   -- the session after n frames
@@ -46,8 +47,8 @@ module _ (s : Session) (q : List ℕ) (pool : List Float) where
     -- and so are what they leave, their passes added up and their samples joined
     pub done_cut : block_done s (ran_of s q pool (a + b))
         ≡ (
-          block_answered
-              (BlockAnswer.Done (reported (block_done s (ran_of s q pool a)).0.answer + reported (block_done (left_by a) (ran_of (left_by a) q pool b)).0.answer))
+          answered
+              (Ok (reported (block_done s (ran_of s q pool a)).0.answer + reported (block_done (left_by a) (ran_of (left_by a) q pool b)).0.answer))
               (block_done (left_by a) (ran_of (left_by a) q pool b)).0.session,
           (block_done s (ran_of s q pool a)).1 ++ (block_done (left_by a) (ran_of (left_by a) q pool b)).1,
         )
@@ -111,8 +112,8 @@ module _ (s : Session) (q c : List ℕ) (pool x y : List Float) (places : length
   -- and the passes add up.
   pub block_cut : block_of s q c pool (x ++ y)
       ≡ (
-        block_answered
-            (BlockAnswer.Done (reported (block_of s q c pool x).0.answer + reported (block_of (block_of s q c pool x).0.session q c pool y).0.answer))
+        answered
+            (Ok (reported (block_of s q c pool x).0.answer + reported (block_of (block_of s q c pool x).0.session q c pool y).0.answer))
             (block_of (block_of s q c pool x).0.session q c pool y).0.session,
         (block_of s q c pool x).1 ++ (block_of (block_of s q c pool x).0.session q c pool y).1,
       )

@@ -34,11 +34,12 @@ use Rattle.session.proofs.Ready.{frame_ready}
 use Rattle.session.proofs.Kept.{song_fits}
 use Rattle.runs.specs.Frames.{stretch_of, FramesReady}
 use Rattle.runs.proofs.Runs.{stretch_few}
-use Rattle.block.specs.declared.BlockAnswer.{BlockAnswer}
-use Rattle.block.specs.Block.{of_parts, block_answered, ran_of, block_done}
+use Rattle.session.specs.Answer.{answered}
+use Rattle.block.specs.Block.{of_parts, ran_of, block_done}
 use Rattle.block.specs.Fill.{first_due, lead_of, first_done, Going, Fillable}
 use Rattle.block.proofs.Kept.{Standing, run_stands, executed}
 use Rattle.block.proofs.Steps.{due_some, due_at, queue_some, lead_most, lead_some, lead_clear, one_not, one_due}
+use Rattle.std.specs.Prelude.{Ok}
 
 -- a part that was lent comes back: what was written at its front stands behind what stood before it
 pub part_take : {A : Type 0} (o r d e : List A) (a j : ℕ) → a ≤ length o → length r ≡ j → take (a + j) (take a o ++ ((r ++ d) ++ e)) ≡ take a o ++ r
@@ -197,7 +198,7 @@ module _ (x : Settings) (b : Bank) (t : Stage) (m : ℕ) (q : List ℕ) (pool : 
     -- what the block gives, whatever the desk
     module _ (pos : 0 < n) (e : i ≡ n) (desk : Desk) where
       ends_at : (c : Stage) (l : ℕ) (told : List Told) → one machine y (queue q k) ≡ ran (stand c (queue q l)) [] told
-          → (block_answered (BlockAnswer.Done p) (at c l desk), o) ≡ block_done (at t m desk) (ran_of (at t m desk) q pool n)
+          → (answered (Ok p) (at c l desk), o) ≡ block_done (at t m desk) (ran_of (at t m desk) q pool n)
       unfolding ran_of
       ends_at c l told w =
           let r : block machine n began ≡ ran (stand c (queue q l)) h.made (h.told ++ told) =
@@ -206,19 +207,19 @@ module _ (x : Settings) (b : Bank) (t : Stage) (m : ℕ) (q : List ℕ) (pool : 
 
       -- left after the single command at the block's end
       pub fill_last : (clip : Clip) → clip ≡ clip_of b y.playhead.song → first_due q k y.clock.0 ≡ true
-          → (block_answered (BlockAnswer.Done p) (at (first_done x clip q k y) (k - 1) desk), o) ≡ block_done (at t m desk) (ran_of (at t m desk) q pool n)
+          → (answered (Ok p) (at (first_done x clip q k y) (k - 1) desk), o) ≡ block_done (at t m desk) (ran_of (at t m desk) q pool n)
       unfolding view_of
       fill_last clip ec d =
           let r : QueueRecord = record_of (row_at q (k - 1)) in
           rw ec (ends_at (machine.exec r y) (k - 1) (machine.tells r y ∷ []) (one_due machine (λ d. refl) q k y d))
 
       -- left with nothing due at the block's end
-      pub fill_end : first_due q k y.clock.0 ≡ false → (block_answered (BlockAnswer.Done p) (at y k desk), o) ≡ block_done (at t m desk) (ran_of (at t m desk) q pool n)
+      pub fill_end : first_due q k y.clock.0 ≡ false → (answered (Ok p) (at y k desk), o) ≡ block_done (at t m desk) (ran_of (at t m desk) q pool n)
       fill_end d = ends_at y k [] (one_not machine (λ d. refl) q k y d)
 
   -- a block of no frames
   pub fill_none : (o : List Float) → length o ≡ frames_of o * 2 → frames_of o ≡ 0 → (desk : Desk)
-      → (block_answered (BlockAnswer.Done 0) (at t m desk), o) ≡ block_done (at t m desk) (ran_of (at t m desk) q pool (frames_of o))
+      → (answered (Ok 0) (at t m desk), o) ≡ block_done (at t m desk) (ran_of (at t m desk) q pool (frames_of o))
   unfolding ran_of
   fill_none [] e z desk = rw (block_none machine began, length_queue q m)
   fill_none (f ∷ o) e z desk = absurd (omega arith)

@@ -26,8 +26,9 @@ use Rattle.session.specs.Session.{with_stage}
 use Rattle.session.specs.WellFormed.{well_formed}
 use Rattle.session.proofs.Refuse.{passed, unless_both}
 use Rattle.session.proofs.Kept.{frame_keeps, frame_table, exec_keeps, exec_table}
-use Rattle.block.specs.declared.BlockAnswer.{BlockAnswer}
-use Rattle.block.specs.Block.{block_answered, weigh_block, ran_of, block_done, block_of}
+use Rattle.session.specs.Answer.{answered}
+use Rattle.block.specs.Block.{weigh_block, ran_of, block_done, block_of}
+use Rattle.std.specs.Prelude.{Err}
 
 module _ (s : Session) (q c : List ℕ) where
   -- the session is well formed at a stage with k records queued, which are the queue, and the table has its 16 places
@@ -170,7 +171,7 @@ module _ (s : Session) (q c : List ℕ) where
       pub call_keeps : (out : List Float) → well_formed (block_of s q c pool out).0.session q c ≡ true
       unfolding block_of weigh_block
       call_keeps out =
-          unless_both (weigh_block s q c pool out) (λ k. (block_answered (BlockAnswer.Refused k) s, out))
+          unless_both (weigh_block s q c pool out) (λ k. (answered (Err k) s, out))
           (block_done s (ran_of s q pool (frames_of out))) (λ z. well_formed z.0.session q c ≡ true) (λ k. w)
           (λ f. let fine = (passed _ _ _ (passed _ _ _ (passed _ _ _ (passed _ _ _ f).1).1).1).0 in
           block_keeps (frames_of out) (ltb-false (2 ^ 62) (s.stage.clock.0 + frames_of out) fine))

@@ -25,7 +25,8 @@ use Rattle.stage.proofs.Clock.{clocked}
 use Rattle.session.specs.declared.Desk.{Desk}
 use Rattle.session.specs.declared.Session.{Session}
 use Rattle.session.specs.Session.{with_queue}
-use Rattle.block.specs.Block.{block_answered, ran_of, block_done, block_of}
+use Rattle.session.specs.Answer.{answered}
+use Rattle.block.specs.Block.{ran_of, block_done, block_of}
 use Rattle.block.proofs.Weigh.{Accepted, block_done_law}
 use Rattle.block.proofs.Queue.{ran_fewer, queue_ran}
 use Rattle.block.proofs.Cut.{left_by}
@@ -50,7 +51,7 @@ module _ (s : Session) (q : List ℕ) (pool : List Float) (n : ℕ) (r : QueueRe
 
   -- so the samples are the same, and the session is that without it, with one command more queued,
   pub done_later : block_done (with_one s desk) (ran_of (with_one s desk) (store_with q s r) pool n)
-      ≡ (block_answered (block_done s (ran_of s q pool n)).0.answer (with_one (left_by s q pool n) desk), (block_done s (ran_of s q pool n)).1)
+      ≡ (answered (block_done s (ran_of s q pool n)).0.answer (with_one (left_by s q pool n) desk), (block_done s (ran_of s q pool n)).1)
   done_later = rw (ran_later, length_insert frame r (ran_of s q pool n).at.queue)
 
   -- and the records that are live then are those of the store into which it comes after the block
@@ -68,7 +69,7 @@ pub block_later : (s : Session) (q c : List ℕ) (pool out : List Float) (r : Qu
     → s.queued * 5 + 5 ≤ length q → s.stage.clock.0 + frames_of out < frame r
     → Accepted s q c pool out → Accepted (with_one s desk) (store_with q s r) c pool out
     → block_of (with_one s desk) (store_with q s r) c pool out
-    ≡ (block_answered (block_of s q c pool out).0.answer (with_one (block_of s q c pool out).0.session desk), (block_of s q c pool out).1)
+    ≡ (answered (block_of s q c pool out).0.answer (with_one (block_of s q c pool out).0.session desk), (block_of s q c pool out).1)
 block_later s q c pool out r desk e room later a b =
     rw (block_done_law s q c pool out a, block_done_law (with_one s desk) (store_with q s r) c pool out b)
     (done_later s q pool (frames_of out) r desk room e later)

@@ -10,12 +10,12 @@ use borrow.Author.Tests.{not-false, ltb-false, le-ltb, eqb-false}
 use Rattle.bank.specs.Sample.{frames_of, is_pool, is_odd}
 use Rattle.session.specs.declared.Session.{Session}
 use Rattle.session.specs.declared.Refusal.{Refusal}
-use Rattle.session.specs.declared.Weighed.{Weighed}
 use Rattle.session.specs.WellFormed.{well_formed}
 use Rattle.session.proofs.Refuse.{passed, skip, unless_fine, unless_refused}
-use Rattle.block.specs.declared.BlockAnswer.{BlockAnswer}
-use Rattle.block.specs.Block.{block_answered, weigh_block, ran_of, block_done, block_of}
+use Rattle.session.specs.Answer.{answered}
+use Rattle.block.specs.Block.{weigh_block, ran_of, block_done, block_of}
 use Rattle.block.specs.Fill.{Fillable}
+use Rattle.std.specs.Prelude.{Ok, Err}
 
 -- none of 1, 2, 3 and 4
 pub record Accepted (s : Session) (q c : List ℕ) (pool out : List Float) : Type 0 where
@@ -26,7 +26,7 @@ pub record Accepted (s : Session) (q c : List ℕ) (pool out : List Float) : Typ
 
 module _ (s : Session) (q c : List ℕ) (pool out : List Float) where
   -- a block that is not refused is none of them,
-  pub accepted : weigh_block s q c pool out ≡ Weighed.Fine → Accepted s q c pool out
+  pub accepted : weigh_block s q c pool out ≡ Ok tt → Accepted s q c pool out
   unfolding weigh_block
   accepted e =
       let p1 = passed _ _ _ e in
@@ -41,7 +41,7 @@ module _ (s : Session) (q c : List ℕ) (pool out : List Float) where
       }
 
   -- one that is none of them is not refused,
-  pub fine : Accepted s q c pool out → weigh_block s q c pool out ≡ Weighed.Fine
+  pub fine : Accepted s q c pool out → weigh_block s q c pool out ≡ Ok tt
   unfolding weigh_block
   fine a =
       sym
@@ -54,7 +54,7 @@ module _ (s : Session) (q c : List ℕ) (pool out : List Float) where
   block_done_law a = unless_fine _ _ _ (fine a)
 
   -- a refused one gives its refusal, and leaves session and output
-  pub block_refused : (k : Refusal) → weigh_block s q c pool out ≡ Weighed.Refused k → block_of s q c pool out ≡ (block_answered (BlockAnswer.Refused k) s, out)
+  pub block_refused : (k : Refusal) → weigh_block s q c pool out ≡ Err k → block_of s q c pool out ≡ (answered (Err k) s, out)
   unfolding block_of
   block_refused k e = unless_refused _ _ _ k e
 

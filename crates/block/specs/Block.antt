@@ -1,5 +1,5 @@
 -- The block. Definitions only.
-use Rattle.std.specs.Prelude.{ℕ, ◌+◌, ◌^◌, not, List, [], ◌∷◌, ◌++◌, ltb, length, Float}
+use Rattle.std.specs.Prelude.{ℕ, ◌+◌, ◌^◌, not, List, [], ◌∷◌, ◌++◌, ltb, length, Float, Result, Ok, Err}
 use Rattle.laws.specs.Block.{Ran, stand, block}
 use Rattle.timeline.specs.declared.QueueRecord.{QueueRecord}
 use Rattle.timeline.specs.Queue.{queue}
@@ -12,33 +12,22 @@ use Rattle.stage.specs.Machine.{Told, FrameMade, machine_of, output_of, passes_o
 use Rattle.session.specs.declared.Desk.{Desk}
 use Rattle.session.specs.declared.Session.{Session}
 use Rattle.session.specs.declared.Refusal.{Refusal}
-use Rattle.session.specs.declared.Weighed.{Weighed}
-use Rattle.session.specs.Refusal.{number_of, first, unless}
+use Rattle.session.specs.Refusal.{first, unless}
 use Rattle.session.specs.Session.{with_stage}
 use Rattle.session.specs.WellFormed.{well_formed}
-use Rattle.session.specs.Answer.{Says, refused, gives}
-use Rattle.block.specs.declared.BlockAnswer.{BlockAnswer}
-use Rattle.block.specs.declared.BlockAnswered.{BlockAnswered}
+use Rattle.session.specs.Answer.{answered}
+use Rattle.session.specs.declared.Answered.{Answered}
 
 -- the session of its parts
 abbrev pub of_parts : Settings → Bank → Stage → ℕ → Desk → Session
 of_parts x b t n d = record { settings = x; bank = b; stage = t; queued = n; desk = d }
 
--- the passes made in the block, or the refusal's number
-abbrev pub says_block : BlockAnswer → Says ℕ
-says_block (BlockAnswer.Done n) = gives n
-says_block (BlockAnswer.Refused k) = refused (number_of k)
-
--- an answer with the session that it leaves
-abbrev pub block_answered : BlockAnswer → Session → BlockAnswered
-block_answered a s = record { answer = a; session = s }
-
 -- 1, 2, 3, 4
-unfoldable pub weigh_block : Session → List ℕ → List ℕ → List Float → List Float → Weighed
+unfoldable pub weigh_block : Session → List ℕ → List ℕ → List Float → List Float → Result (Unit {0}) Refusal
 weigh_block s q c pool out =
     first (not (well_formed s q c)) Refusal.NotWellFormed
     (first (not (is_pool pool s.settings.pool)) Refusal.PoolLength
-    (first (is_odd out) Refusal.OddSamples (first (ltb (2 ^ 62) (s.stage.clock.0 + frames_of out)) Refusal.ClockSpent Weighed.Fine)))
+    (first (is_odd out) Refusal.OddSamples (first (ltb (2 ^ 62) (s.stage.clock.0 + frames_of out)) Refusal.ClockSpent (Ok tt))))
 
 -- n frames of the stage, over the bank's clips in the pool and the queue's records
 unfoldable pub ran_of : Session → List ℕ → List Float → ℕ → Ran Stage QueueRecord FrameMade Told
@@ -46,24 +35,24 @@ ran_of s q pool n = block (machine_of s.settings (view_of pool s.bank)) n (stand
 
 -- it answers the passes made in it, whatever set the laps back; the stage is where the block came to, and what it did not execute stays queued; the
 -- output is what its frames made
-abbrev pub block_done : Session → Ran Stage QueueRecord FrameMade Told → BlockAnswered × List Float
-block_done s r = (block_answered (BlockAnswer.Done (passes_of r.made)) (with_stage s r.at.core (length r.at.queue)), output_of r.made)
+abbrev pub block_done : Session → Ran Stage QueueRecord FrameMade Told → Answered ℕ × List Float
+block_done s r = (answered (Ok (passes_of r.made)) (with_stage s r.at.core (length r.at.queue)), output_of r.made)
 
 -- answer and session; output
-unfoldable pub block_of : Session → List ℕ → List ℕ → List Float → List Float → BlockAnswered × List Float
+unfoldable pub block_of : Session → List ℕ → List ℕ → List Float → List Float → Answered ℕ × List Float
 block_of s q c pool out =
-    unless (weigh_block s q c pool out) (λ k. (block_answered (BlockAnswer.Refused k) s, out)) (block_done s (ran_of s q pool (frames_of out)))
+    unless (weigh_block s q c pool out) (λ k. (answered (Err k) s, out)) (block_done s (ran_of s q pool (frames_of out)))
 
 -- the passes that an answer reports; a refused block makes none
-abbrev pub reported : BlockAnswer → ℕ
-reported (BlockAnswer.Done n) = n
-reported (BlockAnswer.Refused k) = 0
+abbrev pub reported : Result ℕ Refusal → ℕ
+reported (Ok n) = n
+reported (Err k) = 0
 
 -- blocks one after the other, each on the session that the one before it left: the last session, the passes added up, and the outputs joined
 abbrev pub blocks_of : Session → List ℕ → List ℕ → List Float → List (List Float) → Session × ℕ × List Float
 blocks_of s q c pool [] = (s, 0, [])
 blocks_of s q c pool (out ∷ outs) =
-    let x : BlockAnswered × List Float = block_of s q c pool out in
+    let x : Answered ℕ × List Float = block_of s q c pool out in
     let y : Session × ℕ × List Float = blocks_of x.0.session q c pool outs in
     (y.0, reported x.0.answer + y.1, x.1 ++ y.2)
 

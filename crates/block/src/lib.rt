@@ -1,47 +1,34 @@
 //! The block call: a block is split where commands are due, so that none lands early or late.
 #![tactic(auto)]
 
-ghost use Rattle.std.specs.Prelude.{◌≡◌, false, List, Float, ◌*◌, ◌≤◌, ◌<◌, length};
+ghost use Rattle.std.specs.Prelude.{ℕ, ◌≡◌, false, List, Float, ◌*◌, ◌≤◌, ◌<◌, length};
 ghost use Rattle.bank.specs.Sample.{frames_of};
 ghost use Rattle.session.specs.declared.Desk.{Desk};
-ghost use Rattle.block.specs.declared.BlockAnswered.{BlockAnswered};
-ghost use Rattle.block.specs.Block.{of_parts, block_answered, weigh_block, ran_of, block_done, block_of, reported};
+ghost use Rattle.session.specs.declared.Answered.{Answered};
+ghost use Rattle.session.specs.Answer.{answered};
+ghost use Rattle.block.specs.Block.{of_parts, weigh_block, ran_of, block_done, block_of, reported};
 ghost use Rattle.block.specs.Fill.{first_due, lead_of, first_done, Executable, Fillable};
 
 use bank::{Bank, Clip};
 use counts::ClockFrame;
-use session::{CLOCK_END, Desk, Refusal, Session, Weighed};
+use session::{Answered, CLOCK_END, Desk, Refusal, Session};
 use stage::{Settings, Stage};
-
-/// The answer of a block: how many times the playhead passed from a loop's end to its start in it.
-#[derive(Clone, Copy)]
-pub enum BlockAnswer {
-    Done(u64),
-    Refused(Refusal),
-}
-
-/// A block's answer, and the session.
-#[derive(Clone, Copy)]
-pub struct BlockAnswered {
-    pub answer: BlockAnswer,
-    pub session: Session,
-}
 
 /// What a block makes: its answer, and what it changes of a session, the stage and the depth.
 #[derive(Clone, Copy)]
 pub struct Made {
-    pub answer: BlockAnswer,
+    pub answer: Result<u64, Refusal>,
     pub stage: Stage,
     pub queued: usize,
 }
 
 /// The passes that an answer reports; a refused block makes none.
-pub fn reported_by(answer: BlockAnswer) -> u64
+pub fn reported_by(answer: Result<u64, Refusal>) -> u64
     ensures { result ≡ reported answer }
 {
     match answer {
-        BlockAnswer::Done(passes) => passes,
-        BlockAnswer::Refused(_) => 0,
+        Ok(passes) => passes,
+        Err(_) => 0,
     }
 }
 
@@ -56,22 +43,22 @@ pub fn weigh_block(
     capture: &[u64],
     pool: &[f32],
     out: &[f32],
-) -> Weighed
+) -> Result<(), Refusal>
     ensures { result ≡ weigh_block (of_parts settings bank stage queued desk) queue.now capture.now pool.now out.now }
 {
     if !session::formed(settings, bank, stage, queued, desk, queue, capture) {
-        return Weighed::Refused(Refusal::NotWellFormed);
+        return Err(Refusal::NotWellFormed);
     }
     if !bank::is_pool(pool, settings.pool) {
-        return Weighed::Refused(Refusal::PoolLength);
+        return Err(Refusal::PoolLength);
     }
     if bank::is_odd(out) {
-        return Weighed::Refused(Refusal::OddSamples);
+        return Err(Refusal::OddSamples);
     }
     if stage.clock.0 + bank::frames_of(out) > CLOCK_END {
-        return Weighed::Refused(Refusal::ClockSpent);
+        return Err(Refusal::ClockSpent);
     }
-    Weighed::Fine
+    Ok(())
 }
 
 /// Is the first queued command due?
@@ -132,12 +119,12 @@ pub fn fill(
     out: &mut [f32],
 ) -> Made
     requires { Fillable settings bank stage queued queue.now pool.now out.old }
-    ensures { (desk : Desk) → ◌≡◌ {A = BlockAnswered × List Float} (block_answered result.answer (of_parts settings bank result.stage result.queued desk), out.new) (block_done (of_parts settings bank stage queued desk) (ran_of (of_parts settings bank stage queued desk) queue.now pool.now (frames_of out.old))) }
+    ensures { (desk : Desk) → ◌≡◌ {A = Answered ℕ × List Float} (answered result.answer (of_parts settings bank result.stage result.queued desk), out.new) (block_done (of_parts settings bank stage queued desk) (ran_of (of_parts settings bank stage queued desk) queue.now pool.now (frames_of out.old))) }
 {
     let frames = out.len() / 2;
     if frames == 0 {
         return Made {
-            answer: BlockAnswer::Done(0),
+            answer: Ok(0),
             stage,
             queued,
         };
@@ -169,7 +156,7 @@ pub fn fill(
         }
     }
     Made {
-        answer: BlockAnswer::Done(passes),
+        answer: Ok(passes),
         stage,
         queued,
     }
@@ -187,7 +174,7 @@ pub fn make(
     pool: &[f32],
     out: &mut [f32],
 ) -> Made
-    ensures { ◌≡◌ {A = BlockAnswered × List Float} (block_answered result.answer (of_parts settings bank result.stage result.queued desk), out.new) (block_of (of_parts settings bank stage queued desk) queue.now capture.now pool.now out.old) }
+    ensures { ◌≡◌ {A = Answered ℕ × List Float} (answered result.answer (of_parts settings bank result.stage result.queued desk), out.new) (block_of (of_parts settings bank stage queued desk) queue.now capture.now pool.now out.old) }
 {
     let weighed = weigh_block(
         settings,
@@ -201,9 +188,9 @@ pub fn make(
         &out[..],
     );
     match weighed {
-        Weighed::Fine => fill(settings, bank, stage, queued, queue, pool, &mut out[..]),
-        Weighed::Refused(k) => Made {
-            answer: BlockAnswer::Refused(k),
+        Ok(()) => fill(settings, bank, stage, queued, queue, pool, &mut out[..]),
+        Err(k) => Made {
+            answer: Err(k),
             stage,
             queued,
         },
@@ -218,8 +205,8 @@ pub fn block(
     capture: &[u64],
     pool: &[f32],
     out: &mut [f32],
-) -> BlockAnswered
-    ensures { ◌≡◌ {A = BlockAnswered × List Float} (result, out.new) (block_of s queue.now capture.now pool.now out.old) }
+) -> Answered<u64>
+    ensures { ◌≡◌ {A = Answered ℕ × List Float} (result, out.new) (block_of s queue.now capture.now pool.now out.old) }
 {
     let settings = s.settings;
     let bank = s.bank;
@@ -233,5 +220,5 @@ pub fn block(
     let mut s = s;
     s.stage = next;
     s.queued = made.queued;
-    BlockAnswered { answer, session: s }
+    Answered { answer, session: s }
 }

@@ -22,7 +22,6 @@ use Rattle.bank.proofs.Handles.{same_is, new_live, load_live, load_keeps_clip, r
 use Rattle.oneshot.specs.Mix.{no_voices}
 use Rattle.stage.specs.declared.Settings.{Settings}
 use Rattle.session.specs.declared.Session.{Session}
-use Rattle.session.specs.declared.Weighed.{Weighed}
 use Rattle.session.proofs.Typed.{Typed}
 use Rattle.clips.specs.Open.{weigh_open, first_clip, open_of}
 use Rattle.clips.specs.Load.{weigh_load, clip_for, load_of}
@@ -33,6 +32,7 @@ use Rattle.clips.proofs.Retired as retired
 use Rattle.cliplist.specs.declared.Entry.{Entry}
 use Rattle.cliplist.specs.Start.{names, Listed, Has, Starts}
 use Rattle.cliplist.proofs.Found.{same_self, each_good}
+use Rattle.std.specs.Prelude.{Ok}
 
 -- the line of a clip in a slot
 abbrev pub line_of : ℕ → Clip → Entry
@@ -105,7 +105,7 @@ retired_has b h alive l has =
 -- ---- sessions
 
 -- A SESSION THAT WAS OPENED, its queue for 256 commands or more, starts with its song as the list,
-pub open_starts : (x : Settings) (q c : List ℕ) (pool samples : List Float) (rate : ℕ) (extent : SongFrame) → weigh_open x q c pool samples rate extent ≡ Weighed.Fine → 256 ≤ x.queue
+pub open_starts : (x : Settings) (q c : List ℕ) (pool samples : List Float) (rate : ℕ) (extent : SongFrame) → weigh_open x q c pool samples rate extent ≡ Ok tt → 256 ≤ x.queue
     → Starts x.mode (line_of 0 (first_clip samples rate extent)) (line_of 0 (first_clip samples rate extent) ∷ []) (open_of x q c pool samples rate extent).0.session
 unfolding no_voices
 open_starts x q c pool samples rate extent fine room =
@@ -127,7 +127,7 @@ open_starts x q c pool samples rate extent fine room =
     })
 
 -- a load adds its line to what a session starts with,
-pub load_starts : (s : Session) (q c : List ℕ) (pool samples : List Float) (kind : Kind) (rate : ℕ) → weigh_load s q c pool samples kind rate ≡ Weighed.Fine → Typed s
+pub load_starts : (s : Session) (q c : List ℕ) (pool samples : List Float) (kind : Kind) (rate : ℕ) → weigh_load s q c pool samples kind rate ≡ Ok tt → Typed s
     → (m : ℕ) (e : Entry) (l : List Entry) → Starts m e l s
     → Starts m e (line_of (free_slot s.bank.used) (clip_for s samples kind rate) ∷ l) (load_of s q c pool samples kind rate).0.session
 load_starts s q c pool samples kind rate fine t m e l x =
@@ -149,7 +149,7 @@ load_starts s q c pool samples kind rate fine t m e l x =
     })
 
 -- and a retirement takes its line away
-pub retire_starts : (s : Session) (q c : List ℕ) (h : Handle) → weigh_retire s q c h ≡ Weighed.Fine → (m : ℕ) (e : Entry) (l : List Entry) → Starts m e l s
+pub retire_starts : (s : Session) (q c : List ℕ) (h : Handle) → weigh_retire s q c h ≡ Ok tt → (m : ℕ) (e : Entry) (l : List Entry) → Starts m e l s
     → Starts m e (left h l) (retire_of s q c h).session
 retire_starts s q c h fine m e l x =
     rw (retired.retire_done s q c h fine)

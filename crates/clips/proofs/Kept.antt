@@ -15,7 +15,6 @@ use Rattle.bank.proofs.Handles.{load_keeps_clip, retire_clip}
 use Rattle.bank.proofs.Pool.{load_pool}
 use Rattle.bank.proofs.Claims.{load_claim, retire_claim}
 use Rattle.session.specs.declared.Session.{Session}
-use Rattle.session.specs.declared.Weighed.{Weighed}
 use Rattle.session.specs.declared.Answered.{Answered}
 use Rattle.session.specs.Session.{with_bank}
 use Rattle.session.specs.WellFormed.{well_formed}
@@ -23,25 +22,24 @@ use Rattle.session.specs.Answer.{refused, says}
 use Rattle.session.proofs.Parts.{parts}
 use Rattle.session.proofs.Refuse.{unless_both, refused_leaves}
 use Rattle.session.proofs.Typed.{Typed}
-use Rattle.clips.specs.declared.LoadAnswered.{LoadAnswered}
-use Rattle.clips.specs.Answer.{says_load}
 use Rattle.clips.specs.Load.{start_for, weigh_load, handle_for, clip_for, load_of}
 use Rattle.clips.specs.Retire.{weigh_retire, retire_of}
 use Rattle.clips.proofs.Held.{every_both, all_held, live_small, over_bank, held_by_none}
 use Rattle.clips.proofs.Loaded as load
 use Rattle.clips.proofs.Retired as retire
+use Rattle.std.specs.Prelude.{Ok}
 
 -- what opening and loading give: answer and session; pool
 abbrev Out : Type 0
-Out = LoadAnswered × List Float
+Out = Answered Handle × List Float
 
 module _ (s : Session) (q c : List ℕ) (pool samples : List Float) (kind : Kind) (rate : ℕ) where
   -- a refused load leaves the session and the pool
-  pub load_refused_law : (n : ℕ) → says_load (load_of s q c pool samples kind rate).0.answer ≡ refused n
+  pub load_refused_law : (n : ℕ) → says (load_of s q c pool samples kind rate).0.answer ≡ refused n
       → ◌≡◌ {A = Session × List Float} ((load_of s q c pool samples kind rate).0.session, (load_of s q c pool samples kind rate).1) (s, pool)
   unfolding load_of
   load_refused_law =
-      refused_leaves {A = Out} _ _ _ {B = Session × List Float} (λ a. says_load a.0.answer) (λ a. (a.0.session, a.1)) (handle_for s) (s, pool) refl (λ k. refl)
+      refused_leaves {A = Out} _ _ _ {B = Session × List Float} (λ a. says a.0.answer) (λ a. (a.0.session, a.1)) (handle_for s) (s, pool) refl (λ k. refl)
 
   module _ (t : Typed s) where
     -- well formed in, well formed out
@@ -49,7 +47,7 @@ module _ (s : Session) (q c : List ℕ) (pool samples : List Float) (kind : Kind
     unfolding load_of
     load_kept formed = unless_both {A = Out} _ _ _ (λ a. well_formed a.0.session q c ≡ true) (λ k. formed) loaded
       where
-        loaded : weigh_load s q c pool samples kind rate ≡ Weighed.Fine → well_formed (with_bank s (loaded_in s.bank (handle_for s).slot (clip_for s samples kind rate))) q c ≡ true
+        loaded : weigh_load s q c pool samples kind rate ≡ Ok tt → well_formed (with_bank s (loaded_in s.bank (handle_for s).slot (clip_for s samples kind rate))) q c ≡ true
         loaded fine =
             let p = load.load_placed s q c pool samples kind rate fine t in
             let held = all_held s q c formed in
@@ -60,7 +58,7 @@ module _ (s : Session) (q c : List ℕ) (pool samples : List Float) (kind : Kind
     unfolding load_of loaded_in
     load_typed = unless_both {A = Out} _ _ _ (λ a. Typed a.0.session) (λ k. t) loaded
       where
-        loaded : weigh_load s q c pool samples kind rate ≡ Weighed.Fine → Typed (with_bank s (loaded_in s.bank (handle_for s).slot (clip_for s samples kind rate)))
+        loaded : weigh_load s q c pool samples kind rate ≡ Ok tt → Typed (with_bank s (loaded_in s.bank (handle_for s).slot (clip_for s samples kind rate)))
         loaded fine =
             let p = load.load_placed s q c pool samples kind rate fine t in
             let n = (load.accepted s q c pool samples kind rate fine).serials in
@@ -72,22 +70,22 @@ module _ (s : Session) (q c : List ℕ) (pool samples : List Float) (kind : Kind
     unfolding load_of
     load_pooled lent = unless_both {A = Out} _ _ _ (λ a. is_pool a.1 a.0.session.settings.pool ≡ true) (λ k. lent) loaded
       where
-        loaded : weigh_load s q c pool samples kind rate ≡ Weighed.Fine → is_pool (pasted pool (start_for s samples * 2) samples) s.settings.pool ≡ true
+        loaded : weigh_load s q c pool samples kind rate ≡ Ok tt → is_pool (pasted pool (start_for s samples * 2) samples) s.settings.pool ≡ true
         loaded fine = load_pool (load.load_placed s q c pool samples kind rate fine t) pool samples lent (load.accepted s q c pool samples kind rate fine).even
 
 module _ (s : Session) (q c : List ℕ) (h : Handle) where
   -- a refused retire leaves the session
   pub retire_refused : (n : ℕ) → says (retire_of s q c h).answer ≡ refused n → (retire_of s q c h).session ≡ s
   unfolding retire_of
-  retire_refused = refused_leaves {A = Answered} _ _ _ (λ a. says a.answer) (λ a. a.session) tt s refl (λ k. refl)
+  retire_refused = refused_leaves {A = Answered (Unit {0})} _ _ _ (λ a. says a.answer) (λ a. a.session) tt s refl (λ k. refl)
 
   module _ (t : Typed s) where
     -- well formed in, well formed out
     pub retire_kept : well_formed s q c ≡ true → well_formed (retire_of s q c h).session q c ≡ true
     unfolding retire_of
-    retire_kept formed = unless_both {A = Answered} _ _ _ (λ a. well_formed a.session q c ≡ true) (λ k. formed) retired
+    retire_kept formed = unless_both {A = Answered (Unit {0})} _ _ _ (λ a. well_formed a.session q c ≡ true) (λ k. formed) retired
       where
-        retired : weigh_retire s q c h ≡ Weighed.Fine → well_formed (with_bank s (retired_from s.bank h)) q c ≡ true
+        retired : weigh_retire s q c h ≡ Ok tt → well_formed (with_bank s (retired_from s.bank h)) q c ≡ true
         retired fine =
             let a = retire.accepted s q c h fine in
             let none = held_by_none h s q c (live_small s q c formed t h a.alive) a.loose in
@@ -97,8 +95,8 @@ module _ (s : Session) (q c : List ℕ) (h : Handle) where
     -- the numbers stay in their types
     pub retire_typed : Typed (retire_of s q c h).session
     unfolding retire_of retired_from
-    retire_typed = unless_both {A = Answered} _ _ _ (λ a. Typed a.session) (λ k. t) retired
+    retire_typed = unless_both {A = Answered (Unit {0})} _ _ _ (λ a. Typed a.session) (λ k. t) retired
       where
-        retired : weigh_retire s q c h ≡ Weighed.Fine → Typed (with_bank s (retired_from s.bank h))
+        retired : weigh_retire s q c h ≡ Ok tt → Typed (with_bank s (retired_from s.bank h))
         retired fine =
             record { bank = record { bits = retire_bits s.bank h t.bank.bits; serials = t.bank.serials; places = retire_length s.bank h ∙ t.bank.places }; voices = t.voices }

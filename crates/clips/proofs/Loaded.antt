@@ -23,15 +23,14 @@ use Rattle.bank.proofs.Kept.{Placed, load_places, clip_here}
 use Rattle.bank.proofs.Handles.{new_live, load_keeps_live, load_keeps_clip}
 use Rattle.bank.proofs.Pool.{new_view, load_view}
 use Rattle.session.specs.declared.Session.{Session}
-use Rattle.session.specs.declared.Weighed.{Weighed}
 use Rattle.session.specs.WellFormed.{well_formed}
-use Rattle.session.specs.Answer.{gives}
+use Rattle.session.specs.Answer.{gives, says}
 use Rattle.session.proofs.Parts.{parts}
 use Rattle.session.proofs.Refuse.{passed, unless_fine, gives_fine}
 use Rattle.session.proofs.Typed.{Typed}
-use Rattle.clips.specs.declared.LoadAnswered.{LoadAnswered}
-use Rattle.clips.specs.Answer.{says_load}
+use Rattle.session.specs.declared.Answered.{Answered}
 use Rattle.clips.specs.Load.{start_for, weigh_load, handle_for, clip_for, load_done, load_of}
+use Rattle.std.specs.Prelude.{Ok}
 
 -- a sample count that is neither odd nor 0 is a whole number of frames, and at least one
 pub whole_frames : (samples : List Float) → is_odd samples ≡ false → eqb (length samples) 0 ≡ false → (frames_of samples * 2 ≡ length samples) × (1 ≤ frames_of samples)
@@ -55,11 +54,11 @@ pub record Accepted (s : Session) (q c : List ℕ) (pool samples : List Float) (
 
 -- a load that gives a handle is not refused
 pub load_fine : (s : Session) (q c : List ℕ) (pool samples : List Float) (kind : Kind) (rate : ℕ) (h : Handle)
-    → says_load (load_of s q c pool samples kind rate).0.answer ≡ gives h → weigh_load s q c pool samples kind rate ≡ Weighed.Fine
+    → says (load_of s q c pool samples kind rate).0.answer ≡ gives h → weigh_load s q c pool samples kind rate ≡ Ok tt
 unfolding load_of
-load_fine s q c pool samples kind rate h e = gives_fine {A = LoadAnswered × List Float} _ _ _ (λ a. says_load a.0.answer) (λ k. refl) h e
+load_fine s q c pool samples kind rate h e = gives_fine {A = Answered Handle × List Float} _ _ _ (λ a. says a.0.answer) (λ k. refl) h e
 
-module _ (s : Session) (q c : List ℕ) (pool samples : List Float) (kind : Kind) (rate : ℕ) (fine : weigh_load s q c pool samples kind rate ≡ Weighed.Fine) where
+module _ (s : Session) (q c : List ℕ) (pool samples : List Float) (kind : Kind) (rate : ℕ) (fine : weigh_load s q c pool samples kind rate ≡ Ok tt) where
   -- a load that is not refused is none of them
   pub accepted : Accepted s q c pool samples kind rate
   unfolding weigh_load
@@ -106,7 +105,7 @@ module _ (s : Session) (q c : List ℕ) (pool samples : List Float) (kind : Kind
       lies (inr e) = fit_lies s.bank s.settings.pool (frames_of samples) (start_for s samples) e
 
   -- it gives the handle
-  pub load_gives : says_load (load_of s q c pool samples kind rate).0.answer ≡ gives (handle_for s)
+  pub load_gives : says (load_of s q c pool samples kind rate).0.answer ≡ gives (handle_for s)
   load_gives = rw load_done_law
 
   module _ (t : Typed s) where

@@ -32,16 +32,15 @@ use Rattle.oneshot.specs.Mix.{no_voices}
 use Rattle.oneshot.proofs.Fires.{places_none}
 use Rattle.stage.specs.declared.Settings.{Settings}
 use Rattle.session.specs.declared.Session.{Session}
-use Rattle.session.specs.declared.Weighed.{Weighed}
 use Rattle.session.specs.WellFormed.{settings_ok, stores_ok, well_formed}
-use Rattle.session.specs.Answer.{refused, gives}
+use Rattle.session.specs.Answer.{refused, gives, says}
 use Rattle.session.proofs.Parts.{parts, whole}
 use Rattle.session.proofs.Refuse.{passed, unless_fine, unless_both, refused_leaves, gives_fine}
 use Rattle.session.proofs.Typed.{Typed}
-use Rattle.clips.specs.declared.LoadAnswered.{LoadAnswered}
-use Rattle.clips.specs.Answer.{says_load}
+use Rattle.session.specs.declared.Answered.{Answered}
 use Rattle.clips.specs.Open.{weigh_open, first_handle, first_clip, session_of, no_session, open_done, open_of}
 use Rattle.clips.proofs.Loaded.{whole_frames}
+use Rattle.std.specs.Prelude.{Ok}
 
 -- none of 7, 1, 2, 3, 5, 6, 13 and 10
 pub record Accepted (x : Settings) (q c : List ℕ) (pool samples : List Float) (rate : ℕ) (extent : SongFrame) : Type 0 where
@@ -58,11 +57,11 @@ pub record Accepted (x : Settings) (q c : List ℕ) (pool samples : List Float) 
 
 -- an opening that gives a handle is not refused
 pub open_fine : (x : Settings) (q c : List ℕ) (pool samples : List Float) (rate : ℕ) (extent : SongFrame) (h : Handle)
-    → says_load (open_of x q c pool samples rate extent).0.answer ≡ gives h → weigh_open x q c pool samples rate extent ≡ Weighed.Fine
+    → says (open_of x q c pool samples rate extent).0.answer ≡ gives h → weigh_open x q c pool samples rate extent ≡ Ok tt
 unfolding open_of
-open_fine x q c pool samples rate extent h e = gives_fine {A = LoadAnswered × List Float} _ _ _ (λ a. says_load a.0.answer) (λ k. refl) h e
+open_fine x q c pool samples rate extent h e = gives_fine {A = Answered Handle × List Float} _ _ _ (λ a. says a.0.answer) (λ k. refl) h e
 
-module _ (x : Settings) (q c : List ℕ) (pool samples : List Float) (rate : ℕ) (extent : SongFrame) (fine : weigh_open x q c pool samples rate extent ≡ Weighed.Fine) where
+module _ (x : Settings) (q c : List ℕ) (pool samples : List Float) (rate : ℕ) (extent : SongFrame) (fine : weigh_open x q c pool samples rate extent ≡ Ok tt) where
   -- an opening that is not refused is none of them
   pub accepted : Accepted x q c pool samples rate extent
   unfolding weigh_open
@@ -101,7 +100,7 @@ module _ (x : Settings) (q c : List ℕ) (pool samples : List Float) (rate : ℕ
   open_ready = let a = accepted in let n : length pool ≡ x.pool * 2 = eqb-true (length pool) (x.pool * 2) a.lent in omega arith
 
   -- it gives that handle
-  pub open_gives : says_load (open_of x q c pool samples rate extent).0.answer ≡ gives first_handle
+  pub open_gives : says (open_of x q c pool samples rate extent).0.answer ≡ gives first_handle
   open_gives = rw open_done_law
 
   free : (i : ℕ) → used_at empty_bank.used i ≡ false
@@ -182,17 +181,17 @@ none_formed q c = go (two_ways (well_formed no_session q c))
 
 module _ (x : Settings) (q c : List ℕ) (pool samples : List Float) (rate : ℕ) (extent : SongFrame) where
   -- a refused opening leaves the pool, and no session
-  pub open_refused : (n : ℕ) → says_load (open_of x q c pool samples rate extent).0.answer ≡ refused n
+  pub open_refused : (n : ℕ) → says (open_of x q c pool samples rate extent).0.answer ≡ refused n
       → ◌≡◌ {A = Session × List Float} ((open_of x q c pool samples rate extent).0.session, (open_of x q c pool samples rate extent).1) (no_session, pool)
   unfolding open_of
   open_refused =
-      refused_leaves {A = LoadAnswered × List Float} _ _ _ {B = Session × List Float} (λ a. says_load a.0.answer) (λ a. (a.0.session, a.1)) first_handle (no_session, pool) refl
+      refused_leaves {A = Answered Handle × List Float} _ _ _ {B = Session × List Float} (λ a. says a.0.answer) (λ a. (a.0.session, a.1)) first_handle (no_session, pool) refl
       (λ k. refl)
 
   -- what opening hands back has numbers of their types
   pub open_typed : Typed (open_of x q c pool samples rate extent).0.session
   unfolding open_of empty_bank loaded_in
   open_typed =
-      unless_both {A = LoadAnswered × List Float} _ _ _ (λ a. Typed a.0.session)
+      unless_both {A = Answered Handle × List Float} _ _ _ (λ a. Typed a.0.session)
       (λ k. record { bank = record { bits = omega arith; serials = omega arith; places = empty_places }; voices = places_none })
       (λ fine. record { bank = record { bits = omega arith; serials = omega arith; places = load_length (placed x q c pool samples rate extent fine) }; voices = places_none })

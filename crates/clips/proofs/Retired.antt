@@ -16,8 +16,6 @@ use Rattle.bank.proofs.Handles.{retire_stale, retire_live, retire_spends}
 use Rattle.bank.proofs.Pool.{retire_view}
 use Rattle.session.specs.declared.Session.{Session}
 use Rattle.session.specs.declared.Refusal.{Refusal}
-use Rattle.session.specs.declared.Weighed.{Weighed}
-use Rattle.session.specs.declared.Answer.{Answer}
 use Rattle.session.specs.declared.Answered.{Answered}
 use Rattle.session.specs.Session.{with_bank}
 use Rattle.session.specs.WellFormed.{well_formed}
@@ -27,6 +25,7 @@ use Rattle.session.proofs.Refuse.{stop, skip, passed, unless_fine, unless_refuse
 use Rattle.session.proofs.Typed.{Typed}
 use Rattle.clips.specs.Retire.{held_now, weigh_retire, retire_of}
 use Rattle.clips.proofs.Held.{Holder, live_small, held_is, held_has}
+use Rattle.std.specs.Prelude.{Ok, Err}
 
 -- none of 1, 11 and 19
 pub record Accepted (s : Session) (q c : List ℕ) (h : Handle) : Type 0 where
@@ -35,20 +34,20 @@ pub record Accepted (s : Session) (q c : List ℕ) (h : Handle) : Type 0 where
   pub loose : held_now s q c h ≡ false
 
 -- a retire that says that it is done is not refused
-pub retire_fine : (s : Session) (q c : List ℕ) (h : Handle) → says (retire_of s q c h).answer ≡ gives tt → weigh_retire s q c h ≡ Weighed.Fine
+pub retire_fine : (s : Session) (q c : List ℕ) (h : Handle) → says (retire_of s q c h).answer ≡ gives tt → weigh_retire s q c h ≡ Ok tt
 unfolding retire_of
-retire_fine s q c h e = gives_fine {A = Answered} _ _ _ (λ a. says a.answer) (λ k. refl) tt e
+retire_fine s q c h e = gives_fine {A = Answered (Unit {0})} _ _ _ (λ a. says a.answer) (λ k. refl) tt e
 
 -- a retire that is not refused frees slot and room, and changes nothing else
-pub retire_done : (s : Session) (q c : List ℕ) (h : Handle) → weigh_retire s q c h ≡ Weighed.Fine
-    → retire_of s q c h ≡ answered Answer.Done (with_bank s (retired_from s.bank h))
+pub retire_done : (s : Session) (q c : List ℕ) (h : Handle) → weigh_retire s q c h ≡ Ok tt
+    → retire_of s q c h ≡ answered (Ok tt) (with_bank s (retired_from s.bank h))
 unfolding retire_of
 retire_done s q c h e = unless_fine (weigh_retire s q c h) _ _ e
 
 module _ (s : Session) (q c : List ℕ) (h : Handle) where
-  refuses : (k : Refusal) → Weighed.Refused k ≡ weigh_retire s q c h → says (retire_of s q c h).answer ≡ says (Answer.Refused k)
+  refuses : (k : Refusal) → Err k ≡ weigh_retire s q c h → says (retire_of s q c h).answer ≡ says (Err k)
   unfolding retire_of
-  refuses k e = rw (unless_refused (weigh_retire s q c h) (λ j. answered (Answer.Refused j) s) (answered Answer.Done (with_bank s (retired_from s.bank h))) k (sym e))
+  refuses k e = rw (unless_refused (weigh_retire s q c h) (λ j. answered (Err j) s) (answered (Ok (tt {0})) (with_bank s (retired_from s.bank h))) k (sym e))
 
   module _ (formed : well_formed s q c ≡ true) where
     -- a stale handle is refused with 11
@@ -82,7 +81,7 @@ module _ (s : Session) (q c : List ℕ) (h : Handle) where
             go (inl p) = held_has h s q c small p
             go (inr p) = let f : says (retire_of s q c h).answer ≡ gives tt = rw p at held_refused in let x : ◌≡◌ {A = ℕ} 0 1 = cc in absurd (omega arith)
 
-  module _ (fine : weigh_retire s q c h ≡ Weighed.Fine) where
+  module _ (fine : weigh_retire s q c h ≡ Ok tt) where
     -- a retire that is not refused is none of 1, 11 and 19
     pub accepted : Accepted s q c h
     unfolding weigh_retire

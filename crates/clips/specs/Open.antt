@@ -1,5 +1,5 @@
 -- Opening. Definitions only.
-use Rattle.std.specs.Prelude.{ℕ, false, not, ◌&&◌, List, ltb, eqb, length, Float}
+use Rattle.std.specs.Prelude.{ℕ, false, not, ◌&&◌, List, ltb, eqb, length, Float, Result, Ok, Err}
 use Rattle.counts.specs.declared.SongFrame.{SongFrame}
 use Rattle.counts.specs.declared.Handle.{Handle}
 use Rattle.ramp.specs.Number.{one32}
@@ -23,16 +23,14 @@ use Rattle.stage.specs.Sound.{sound}
 use Rattle.stage.specs.Counters.{counters}
 use Rattle.session.specs.declared.Session.{Session}
 use Rattle.session.specs.declared.Refusal.{Refusal}
-use Rattle.session.specs.declared.Weighed.{Weighed}
 use Rattle.session.specs.Refusal.{first, unless}
 use Rattle.session.specs.Session.{desk_of}
 use Rattle.session.specs.WellFormed.{settings_ok, stores_ok}
-use Rattle.clips.specs.declared.LoadAnswer.{LoadAnswer}
-use Rattle.clips.specs.declared.LoadAnswered.{LoadAnswered}
-use Rattle.clips.specs.Answer.{load_answered}
+use Rattle.session.specs.declared.Answered.{Answered}
+use Rattle.session.specs.Answer.{answered}
 
 -- 7, 1, 2, 3, 5, 6, 13, 10
-unfoldable pub weigh_open : Settings → List ℕ → List ℕ → List Float → List Float → ℕ → SongFrame → Weighed
+unfoldable pub weigh_open : Settings → List ℕ → List ℕ → List Float → List Float → ℕ → SongFrame → Result (Unit {0}) Refusal
 weigh_open x q c pool samples rate extent =
     first (not (settings_ok x && rate_ok rate && extent_ok (Kind.Song extent) (frames_of samples))) Refusal.OutOfRange
     (first (not (stores_ok x q c)) Refusal.NotWellFormed
@@ -42,7 +40,7 @@ weigh_open x q c pool samples rate extent =
     (first (not (samples_ok samples)) Refusal.BadSample
     (first (not (eqb rate x.rate)) Refusal.WrongRate
     (first (ltb x.pool (frames_of samples)) Refusal.NoRoom
-    Weighed.Fine)))))))
+    (Ok tt))))))))
 
 -- opening loads the first song: slot 0, serial 1
 abbrev pub first_handle : Handle
@@ -71,15 +69,15 @@ abbrev pub no_session : Session
 no_session = session_of (record { rate = 0; mode = 0; queue = 0; capture = 0; pool = 0 }) empty_bank (record { slot = 0; serial = 0 })
 
 -- an opening that is not refused: the song in slot 0, its samples at the pool's start, every other sample as it was
-abbrev pub open_done : Settings → List Float → List Float → ℕ → SongFrame → LoadAnswered × List Float
+abbrev pub open_done : Settings → List Float → List Float → ℕ → SongFrame → Answered Handle × List Float
 open_done x pool samples rate extent = (
-  load_answered (LoadAnswer.Loaded first_handle) (session_of x (loaded_in empty_bank 0 (first_clip samples rate extent)) first_handle),
+  answered (Ok first_handle) (session_of x (loaded_in empty_bank 0 (first_clip samples rate extent)) first_handle),
   pasted pool 0 samples,
 )
 
 -- answer and session; pool
-unfoldable pub open_of : Settings → List ℕ → List ℕ → List Float → List Float → ℕ → SongFrame → LoadAnswered × List Float
+unfoldable pub open_of : Settings → List ℕ → List ℕ → List Float → List Float → ℕ → SongFrame → Answered Handle × List Float
 open_of x q c pool samples rate extent =
     unless (weigh_open x q c pool samples rate extent)
-    (λ k. (load_answered (LoadAnswer.Refused k) no_session, pool))
+    (λ k. (answered (Err k) no_session, pool))
     (open_done x pool samples rate extent)

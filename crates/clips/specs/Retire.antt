@@ -1,5 +1,5 @@
 -- Retiring. Definitions only.
-use Rattle.std.specs.Prelude.{ℕ, Bool, false, not, ◌||◌, List}
+use Rattle.std.specs.Prelude.{ℕ, Bool, false, not, ◌||◌, List, Result, Ok, Err}
 use Rattle.counts.specs.declared.Handle.{Handle}
 use Rattle.counts.specs.Below.{any_below}
 use Rattle.counts.specs.Handles.{same_handle}
@@ -10,8 +10,6 @@ use Rattle.stage.specs.declared.Tail.{Tail}
 use Rattle.stage.specs.declared.Stage.{Stage}
 use Rattle.session.specs.declared.Session.{Session}
 use Rattle.session.specs.declared.Refusal.{Refusal}
-use Rattle.session.specs.declared.Weighed.{Weighed}
-use Rattle.session.specs.declared.Answer.{Answer}
 use Rattle.session.specs.declared.Answered.{Answered}
 use Rattle.session.specs.Refusal.{first, unless}
 use Rattle.session.specs.Session.{with_bank, captured_now}
@@ -35,13 +33,13 @@ unfoldable pub held_now : Session → List ℕ → List ℕ → Handle → Bool
 held_now s q c h = stage_holds h s.stage || holds h q s.queued || holds h c (captured_now s.desk)
 
 -- 1, 11, 19
-unfoldable pub weigh_retire : Session → List ℕ → List ℕ → Handle → Weighed
+unfoldable pub weigh_retire : Session → List ℕ → List ℕ → Handle → Result (Unit {0}) Refusal
 weigh_retire s q c h =
     first (not (well_formed s q c)) Refusal.NotWellFormed
     (first (not (live s.bank h)) Refusal.Stale
     (first (held_now s q c h) Refusal.Held
-    Weighed.Fine))
+    (Ok tt)))
 
 -- retiring frees slot and room and writes no sample
-unfoldable pub retire_of : Session → List ℕ → List ℕ → Handle → Answered
-retire_of s q c h = unless (weigh_retire s q c h) (λ k. answered (Answer.Refused k) s) (answered Answer.Done (with_bank s (retired_from s.bank h)))
+unfoldable pub retire_of : Session → List ℕ → List ℕ → Handle → Answered (Unit {0})
+retire_of s q c h = unless (weigh_retire s q c h) (λ k. answered (Err k) s) (answered (Ok tt) (with_bank s (retired_from s.bank h)))

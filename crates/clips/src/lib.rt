@@ -1,41 +1,28 @@
 //! The calls that change the bank: open, load and retire.
 #![tactic(auto)]
 
-ghost use Rattle.std.specs.Prelude.{◌≡◌, true, List, ◌+◌, ◌-◌, ◌*◌, ◌<◌, ◌≤◌, ◌^◌, length, Float};
+ghost use Rattle.std.specs.Prelude.{Ok, ◌≡◌, true, List, ◌+◌, ◌-◌, ◌*◌, ◌<◌, ◌≤◌, ◌^◌, length, Float};
 ghost use Rattle.counts.specs.Below.{any_below};
 ghost use Rattle.counts.specs.Handles.{same_handle};
 ghost use Rattle.oneshot.specs.Mix.{voice_at};
 ghost use Rattle.bank.specs.Sample.{frames_of};
 ghost use Rattle.bank.specs.Slots.{live, retired_from};
-ghost use Rattle.session.specs.declared.Answer.TheVariants.{Done};
 ghost use Rattle.session.specs.Answer.{answered};
 ghost use Rattle.session.specs.Session.{with_bank, captured_now};
-ghost use Rattle.clips.specs.declared.LoadAnswered.{LoadAnswered};
+ghost use Rattle.session.specs.declared.Answered.{Answered};
 ghost use Rattle.clips.specs.Open.{weigh_open, stage_at, session_of, no_session, open_done, open_of};
 ghost use Rattle.clips.specs.Load.{start_for, weigh_load, load_done, load_of};
 ghost use Rattle.clips.specs.Retire.{tail_holds, stage_holds, held_now, weigh_retire, retire_of};
 ghost use Rattle.clips.specs.Own.{slot_word, clips_of};
+ghost use Rattle.counts.specs.declared.Handle.{Handle};
 
 use bank::{Bank, Clip, Kind};
 use counts::{ClockFrame, Handle, SongFrame};
 use oneshot::Voices;
 use ramp::Ramp;
-use session::{Answer, Answered, Desk, Refusal, Session, Weighed};
+use session::{Answered, Desk, Refusal, Session};
 use stage::{Counters, Fade, Playhead, Settings, Sound, Stage, Tail};
 use transport::{LoopRange, Transport, TransportState};
-
-/// The answer of opening and of loading: the clip's handle.
-#[derive(Clone, Copy)]
-pub enum LoadAnswer {
-    Loaded(Handle),
-    Refused(Refusal),
-}
-
-#[derive(Clone, Copy)]
-pub struct LoadAnswered {
-    pub answer: LoadAnswer,
-    pub session: Session,
-}
 
 // ---- open
 
@@ -48,7 +35,7 @@ pub fn weigh_open(
     samples: &[f32],
     rate: u32,
     extent: SongFrame,
-) -> Weighed
+) -> Result<(), Refusal>
     ensures { result ≡ weigh_open settings queue.now capture.now pool.now samples.now rate extent }
 {
     let frames = bank::frames_of(samples);
@@ -56,30 +43,30 @@ pub fn weigh_open(
     let rated = bank::rate_ok(rate);
     let lasts = bank::extent_ok(Kind::Song(extent), frames);
     if !(ranged & rated & lasts) {
-        return Weighed::Refused(Refusal::OutOfRange);
+        return Err(Refusal::OutOfRange);
     }
     if !session::stores_ok(settings, queue, capture) {
-        return Weighed::Refused(Refusal::NotWellFormed);
+        return Err(Refusal::NotWellFormed);
     }
     if !bank::is_pool(pool, settings.pool) {
-        return Weighed::Refused(Refusal::PoolLength);
+        return Err(Refusal::PoolLength);
     }
     if bank::is_odd(samples) {
-        return Weighed::Refused(Refusal::OddSamples);
+        return Err(Refusal::OddSamples);
     }
     if samples.len() == 0 {
-        return Weighed::Refused(Refusal::NoSamples);
+        return Err(Refusal::NoSamples);
     }
     if !bank::samples_ok(samples) {
-        return Weighed::Refused(Refusal::BadSample);
+        return Err(Refusal::BadSample);
     }
     if rate != settings.rate {
-        return Weighed::Refused(Refusal::WrongRate);
+        return Err(Refusal::WrongRate);
     }
     if settings.pool < frames {
-        return Weighed::Refused(Refusal::NoRoom);
+        return Err(Refusal::NoRoom);
     }
-    Weighed::Fine
+    Ok(())
 }
 
 /// Stopped at 0, gain 1.0, nothing else sounding, every count 0.
@@ -156,9 +143,9 @@ fn open_song(
     samples: &[f32],
     rate: u32,
     extent: SongFrame,
-) -> LoadAnswered
+) -> Answered<Handle>
     requires { length samples.now ≤ length pool.old }
-    ensures { ◌≡◌ {A = LoadAnswered × List Float} (result, pool.new) (open_done settings pool.old samples.now rate extent) }
+    ensures { ◌≡◌ {A = Answered Handle × List Float} (result, pool.new) (open_done settings pool.old samples.now rate extent) }
 {
     let frames = bank::frames_of(samples);
     bank::paste(pool, 0, samples);
@@ -173,8 +160,8 @@ fn open_song(
     let empty = Bank::empty();
     let bank = bank::place(empty, 0, clip);
     let session = session_at(settings, bank, h);
-    LoadAnswered {
-        answer: LoadAnswer::Loaded(h),
+    Answered {
+        answer: Ok(h),
         session,
     }
 }
@@ -188,16 +175,16 @@ pub fn open(
     samples: &[f32],
     rate: u32,
     extent: SongFrame,
-) -> LoadAnswered
-    ensures { ◌≡◌ {A = LoadAnswered × List Float} (result, pool.new) (open_of settings queue.now capture.now pool.old samples.now rate extent) }
+) -> Answered<Handle>
+    ensures { ◌≡◌ {A = Answered Handle × List Float} (result, pool.new) (open_of settings queue.now capture.now pool.old samples.now rate extent) }
 {
     let weighed = weigh_open(settings, queue, capture, pool, samples, rate, extent);
     match weighed {
-        Weighed::Refused(k) => LoadAnswered {
-            answer: LoadAnswer::Refused(k),
+        Err(k) => Answered {
+            answer: Err(k),
             session: no_session(),
         },
-        Weighed::Fine => open_song(settings, pool, samples, rate, extent),
+        Ok(()) => open_song(settings, pool, samples, rate, extent),
     }
 }
 
@@ -212,49 +199,55 @@ pub fn weigh_load(
     samples: &[f32],
     kind: Kind,
     rate: u32,
-) -> Weighed
+) -> Result<(), Refusal>
     ensures { result ≡ weigh_load s queue.now capture.now pool.now samples.now kind rate }
 {
     if !session::well_formed(s, queue, capture) {
-        return Weighed::Refused(Refusal::NotWellFormed);
+        return Err(Refusal::NotWellFormed);
     }
     let settings = s.settings;
     if !bank::is_pool(pool, settings.pool) {
-        return Weighed::Refused(Refusal::PoolLength);
+        return Err(Refusal::PoolLength);
     }
     if bank::is_odd(samples) {
-        return Weighed::Refused(Refusal::OddSamples);
+        return Err(Refusal::OddSamples);
     }
     if samples.len() == 0 {
-        return Weighed::Refused(Refusal::NoSamples);
+        return Err(Refusal::NoSamples);
     }
     if !bank::samples_ok(samples) {
-        return Weighed::Refused(Refusal::BadSample);
+        return Err(Refusal::BadSample);
     }
     let frames = bank::frames_of(samples);
     let rated = bank::rate_ok(rate);
     let lasts = bank::extent_ok(kind, frames);
     if !(rated & lasts) {
-        return Weighed::Refused(Refusal::OutOfRange);
+        return Err(Refusal::OutOfRange);
     }
     let b = s.bank;
     if b.used == 0xffff_ffff {
-        return Weighed::Refused(Refusal::SlotsUsed);
+        return Err(Refusal::SlotsUsed);
     }
     if b.last == 0xffff_ffff {
-        return Weighed::Refused(Refusal::SerialsSpent);
+        return Err(Refusal::SerialsSpent);
     }
     if bank::first_fit(b, settings.pool, frames) == bank::NOWHERE {
-        return Weighed::Refused(Refusal::NoRoom);
+        return Err(Refusal::NoRoom);
     }
-    Weighed::Fine
+    Ok(())
 }
 
 /// Loading takes the lowest free slot and the lowest start in the pool where the clip meets no loaded clip; it copies the clip
 /// there and touches no other sample.
-fn load_clip(s: Session, pool: &mut [f32], samples: &[f32], kind: Kind, rate: u32) -> LoadAnswered
+fn load_clip(
+    s: Session,
+    pool: &mut [f32],
+    samples: &[f32],
+    kind: Kind,
+    rate: u32,
+) -> Answered<Handle>
     requires { (s.bank.used ≡ 2 ^ 32 - 1 → ⊥) × (s.bank.last ≡ 2 ^ 32 - 1 → ⊥) × (1 ≤ frames_of samples.now) × (start_for s samples.now * 2 + length samples.now ≤ length pool.old) }
-    ensures { ◌≡◌ {A = LoadAnswered × List Float} (result, pool.new) (load_done s pool.old samples.now kind rate) }
+    ensures { ◌≡◌ {A = Answered Handle × List Float} (result, pool.new) (load_done s pool.old samples.now kind rate) }
 {
     let b = s.bank;
     let frames = bank::frames_of(samples);
@@ -274,8 +267,8 @@ fn load_clip(s: Session, pool: &mut [f32], samples: &[f32], kind: Kind, rate: u3
     let mut session = s;
     session.bank = loaded;
     let h = Handle { slot, serial };
-    LoadAnswered {
-        answer: LoadAnswer::Loaded(h),
+    Answered {
+        answer: Ok(h),
         session,
     }
 }
@@ -289,16 +282,16 @@ pub fn load(
     samples: &[f32],
     kind: Kind,
     rate: u32,
-) -> LoadAnswered
-    ensures { ◌≡◌ {A = LoadAnswered × List Float} (result, pool.new) (load_of s queue.now capture.now pool.old samples.now kind rate) }
+) -> Answered<Handle>
+    ensures { ◌≡◌ {A = Answered Handle × List Float} (result, pool.new) (load_of s queue.now capture.now pool.old samples.now kind rate) }
 {
     let weighed = weigh_load(s, queue, capture, pool, samples, kind, rate);
     match weighed {
-        Weighed::Refused(k) => LoadAnswered {
-            answer: LoadAnswer::Refused(k),
+        Err(k) => Answered {
+            answer: Err(k),
             session: s,
         },
-        Weighed::Fine => load_clip(s, pool, samples, kind, rate),
+        Ok(()) => load_clip(s, pool, samples, kind, rate),
     }
 }
 
@@ -364,47 +357,47 @@ fn held_now(s: Session, queue: &[u64], capture: &[u64], h: Handle) -> bool
 }
 
 /// 1, 11, 19.
-pub fn weigh_retire(s: Session, queue: &[u64], capture: &[u64], h: Handle) -> Weighed
+pub fn weigh_retire(s: Session, queue: &[u64], capture: &[u64], h: Handle) -> Result<(), Refusal>
     ensures { result ≡ weigh_retire s queue.now capture.now h }
 {
     if !session::well_formed(s, queue, capture) {
-        return Weighed::Refused(Refusal::NotWellFormed);
+        return Err(Refusal::NotWellFormed);
     }
     if !s.is_live(h) {
-        return Weighed::Refused(Refusal::Stale);
+        return Err(Refusal::Stale);
     }
     if held_now(s, queue, capture, h) {
-        return Weighed::Refused(Refusal::Held);
+        return Err(Refusal::Held);
     }
-    Weighed::Fine
+    Ok(())
 }
 
 /// Retiring frees slot and room and writes no sample. Retired room is used again.
-fn retire_clip(s: Session, h: Handle) -> Answered
+fn retire_clip(s: Session, h: Handle) -> Answered<()>
     requires { live s.bank h ≡ true }
-    ensures { result ≡ answered Done (with_bank s (retired_from s.bank h)) }
+    ensures { result ≡ answered (Ok tt) (with_bank s (retired_from s.bank h)) }
 {
     let b = s.bank;
     let left = bank::retire(b, h);
     let mut session = s;
     session.bank = left;
     Answered {
-        answer: Answer::Done,
+        answer: Ok(()),
         session,
     }
 }
 
 /// Retires a clip, or says why not.
-pub fn retire(s: Session, queue: &[u64], capture: &[u64], h: Handle) -> Answered
+pub fn retire(s: Session, queue: &[u64], capture: &[u64], h: Handle) -> Answered<()>
     ensures { result ≡ retire_of s queue.now capture.now h }
 {
     let weighed = weigh_retire(s, queue, capture, h);
     match weighed {
-        Weighed::Refused(k) => Answered {
-            answer: Answer::Refused(k),
+        Err(k) => Answered {
+            answer: Err(k),
             session: s,
         },
-        Weighed::Fine => retire_clip(s, h),
+        Ok(()) => retire_clip(s, h),
     }
 }
 

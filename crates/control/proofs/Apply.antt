@@ -12,8 +12,6 @@ use Rattle.transport.specs.declared.Transport.{Transport}
 use Rattle.stage.specs.Playhead.{playhead}
 use Rattle.stage.specs.Sound.{sound}
 use Rattle.session.specs.declared.Session.{Session}
-use Rattle.session.specs.declared.Weighed.{Weighed}
-use Rattle.session.specs.declared.Answer.{Answer}
 use Rattle.session.specs.declared.Answered.{Answered}
 use Rattle.session.specs.Session.{with_stage, extent_now}
 use Rattle.session.specs.WellFormed.{well_formed}
@@ -23,6 +21,7 @@ use Rattle.session.proofs.Parts.{Parts, parts}
 use Rattle.session.proofs.Refuse.{skip, unless_fine, unless_both}
 use Rattle.control.specs.declared.PerformanceSnapshot.{PerformanceSnapshot}
 use Rattle.control.specs.Snapshot.{snapped, weigh_apply, stage_by, apply_of}
+use Rattle.std.specs.Prelude.{Ok}
 
 -- another master and another transport; clock, song, tail, voices, counters, queue, bank and desk as they were
 abbrev pub steered : Session → Ramp → Transport → Session
@@ -40,7 +39,7 @@ steered s g t =
 pub apply_only : (s : Session) (q c : List ℕ) (x : PerformanceSnapshot) → (g : Ramp) × (t : Transport) × ((apply_of s q c x).session ≡ steered s g t)
 unfolding apply_of
 apply_only s q c x =
-    unless_both {A = Answered} _ _ _ (λ a. (g : Ramp) × (t : Transport) × (a.session ≡ steered s g t))
+    unless_both {A = Answered (Unit {0})} _ _ _ (λ a. (g : Ramp) × (t : Transport) × (a.session ≡ steered s g t))
     (λ k. (s.stage.sound.master, s.stage.playhead.transport, refl))
     (λ fine. (_, _, refl))
 
@@ -54,13 +53,13 @@ not_below_is g e = go (lt zero32 g) e
     go false e = inr (e, refl)
 
 -- one that is not refused sets the stage
-pub apply_done : (s : Session) (q c : List ℕ) (x : PerformanceSnapshot) → weigh_apply s q c x ≡ Weighed.Fine
-    → apply_of s q c x ≡ answered Answer.Done (with_stage s (stage_by (extent_now s) x s.stage) s.queued)
+pub apply_done : (s : Session) (q c : List ℕ) (x : PerformanceSnapshot) → weigh_apply s q c x ≡ Ok tt
+    → apply_of s q c x ≡ answered (Ok tt) (with_stage s (stage_by (extent_now s) x s.stage) s.queued)
 unfolding apply_of
 apply_done s q c x = unless_fine (weigh_apply s q c x) _ _
 
 module _ (s : Session) (q c : List ℕ) (formed : well_formed s q c ≡ true) where
-  fine : weigh_apply s q c (snapped s) ≡ Weighed.Fine
+  fine : weigh_apply s q c (snapped s) ≡ Ok tt
   unfolding weigh_apply
   fine = sym (skip _ _ _ _ (ap not formed) (skip _ _ _ _ (ap not (parts s q c formed).master_target) refl))
 

@@ -18,7 +18,6 @@ use Rattle.transport.specs.Transport.{loop_of}
 use Rattle.transport.proofs.Fits.{loops, loop_fits_law}
 use Rattle.stage.specs.declared.Tail.{Tail}
 use Rattle.session.specs.declared.Session.{Session}
-use Rattle.session.specs.declared.Weighed.{Weighed}
 use Rattle.session.specs.declared.Answered.{Answered}
 use Rattle.session.specs.Session.{with_stage, extent_now, captured_now}
 use Rattle.session.specs.WellFormed.{held, tail_held, well_formed, weigh_only}
@@ -27,13 +26,11 @@ use Rattle.session.proofs.Parts.{Parts, parts, whole}
 use Rattle.session.proofs.Refuse.{passed, unless_fine, unless_both, refused_leaves, only_fine}
 use Rattle.session.proofs.Typed.{Typed}
 use Rattle.control.specs.declared.PerformanceSnapshot.{PerformanceSnapshot}
-use Rattle.control.specs.declared.StopAnswered.{StopAnswered}
-use Rattle.control.specs.declared.SnapshotAnswered.{SnapshotAnswered}
-use Rattle.control.specs.declared.MetricsAnswered.{MetricsAnswered}
-use Rattle.control.specs.Answer.{says_stop, says_snapshot, says_metrics}
 use Rattle.control.specs.Capture.{capturing, start_capture_of, stop_capture_of}
 use Rattle.control.specs.Snapshot.{snapped, snapshot_of, weigh_apply, stage_by, apply_of}
 use Rattle.control.specs.Metrics.{metered, metrics_of}
+use Rattle.std.specs.Prelude.{Ok}
+use Rattle.control.specs.declared.PerformanceMetrics.{PerformanceMetrics}
 
 -- ---- what each of them does to a well formed session
 
@@ -124,65 +121,65 @@ module _ (s : Session) (q c : List ℕ) where
   -- starting capture: well formed in, well formed out,
   pub start_kept : well_formed s q c ≡ true → well_formed (start_capture_of s q c).session q c ≡ true
   unfolding start_capture_of
-  start_kept formed = unless_both {A = Answered} _ _ _ (λ a. well_formed a.session q c ≡ true) (λ k. formed) (λ fine. capturing_kept s q c formed true)
+  start_kept formed = unless_both {A = Answered (Unit {0})} _ _ _ (λ a. well_formed a.session q c ≡ true) (λ k. formed) (λ fine. capturing_kept s q c formed true)
 
   -- the numbers stay in their types,
   pub start_typed : Typed s → Typed (start_capture_of s q c).session
   unfolding start_capture_of
-  start_typed t = unless_both {A = Answered} _ _ _ (λ a. Typed a.session) (λ k. t) (λ fine. record { bank = t.bank; voices = t.voices })
+  start_typed t = unless_both {A = Answered (Unit {0})} _ _ _ (λ a. Typed a.session) (λ k. t) (λ fine. record { bank = t.bank; voices = t.voices })
 
   -- and refused it leaves the session
   pub start_refused : (n : ℕ) → says (start_capture_of s q c).answer ≡ refused n → (start_capture_of s q c).session ≡ s
   unfolding start_capture_of
-  start_refused = refused_leaves {A = Answered} _ _ _ (λ a. says a.answer) (λ a. a.session) tt s refl (λ k. refl)
+  start_refused = refused_leaves {A = Answered (Unit {0})} _ _ _ (λ a. says a.answer) (λ a. a.session) tt s refl (λ k. refl)
 
   -- stopping capture: well formed in, well formed out,
   pub stop_kept : (list : List ℕ) → well_formed s q c ≡ true → well_formed (stop_capture_of s q c list).0.session q c ≡ true
   unfolding stop_capture_of
   stop_kept list formed =
-      unless_both {A = StopAnswered × List ℕ} _ _ _ (λ a. well_formed a.0.session q c ≡ true) (λ k. formed) (λ fine. capturing_kept s q c formed false)
+      unless_both {A = Answered ℕ × List ℕ} _ _ _ (λ a. well_formed a.0.session q c ≡ true) (λ k. formed) (λ fine. capturing_kept s q c formed false)
 
   -- the numbers stay in their types,
   pub stop_typed : (list : List ℕ) → Typed s → Typed (stop_capture_of s q c list).0.session
   unfolding stop_capture_of
-  stop_typed list t = unless_both {A = StopAnswered × List ℕ} _ _ _ (λ a. Typed a.0.session) (λ k. t) (λ fine. record { bank = t.bank; voices = t.voices })
+  stop_typed list t = unless_both {A = Answered ℕ × List ℕ} _ _ _ (λ a. Typed a.0.session) (λ k. t) (λ fine. record { bank = t.bank; voices = t.voices })
 
   -- and refused it leaves the session and the list
-  pub stop_refused_law : (list : List ℕ) (n : ℕ) → says_stop (stop_capture_of s q c list).0.answer ≡ refused n
+  pub stop_refused_law : (list : List ℕ) (n : ℕ) → says (stop_capture_of s q c list).0.answer ≡ refused n
       → ◌≡◌ {A = Session × List ℕ} ((stop_capture_of s q c list).0.session, (stop_capture_of s q c list).1) (s, list)
   unfolding stop_capture_of
   stop_refused_law list =
-      refused_leaves {A = StopAnswered × List ℕ} _ _ _ {B = Session × List ℕ} (λ a. says_stop a.0.answer) (λ a. (a.0.session, a.1)) (captured_now s.desk) (s, list) refl
+      refused_leaves {A = Answered ℕ × List ℕ} _ _ _ {B = Session × List ℕ} (λ a. says a.0.answer) (λ a. (a.0.session, a.1)) (captured_now s.desk) (s, list) refl
       (λ k. refl)
 
   -- taking a snapshot leaves the session,
   pub snapshot_leaves : (snapshot_of s q c).session ≡ s
   unfolding snapshot_of
-  snapshot_leaves = unless_both {A = SnapshotAnswered} _ _ _ (λ a. a.session ≡ s) (λ k. refl) (λ fine. refl)
+  snapshot_leaves = unless_both {A = Answered PerformanceSnapshot} _ _ _ (λ a. a.session ≡ s) (λ k. refl) (λ fine. refl)
 
   -- and so does reading the metrics
   pub metrics_leave : (metrics_of s q c).session ≡ s
   unfolding metrics_of
-  metrics_leave = unless_both {A = MetricsAnswered} _ _ _ (λ a. a.session ≡ s) (λ k. refl) (λ fine. refl)
+  metrics_leave = unless_both {A = Answered PerformanceMetrics} _ _ _ (λ a. a.session ≡ s) (λ k. refl) (λ fine. refl)
 
   -- a well formed session gives its snapshot,
-  pub snapshot_gives : well_formed s q c ≡ true → says_snapshot (snapshot_of s q c).answer ≡ gives (snapped s)
+  pub snapshot_gives : well_formed s q c ≡ true → says (snapshot_of s q c).answer ≡ gives (snapped s)
   unfolding snapshot_of
-  snapshot_gives formed = ap (λ (a : SnapshotAnswered). says_snapshot a.answer) (unless_fine (weigh_only s q c) _ _ (only_fine s q c formed))
+  snapshot_gives formed = ap (λ (a : Answered PerformanceSnapshot). says a.answer) (unless_fine (weigh_only s q c) _ _ (only_fine s q c formed))
 
   -- and its metrics
-  pub metrics_give : well_formed s q c ≡ true → says_metrics (metrics_of s q c).answer ≡ gives (metered s)
+  pub metrics_give : well_formed s q c ≡ true → says (metrics_of s q c).answer ≡ gives (metered s)
   unfolding metrics_of
-  metrics_give formed = ap (λ (a : MetricsAnswered). says_metrics a.answer) (unless_fine (weigh_only s q c) _ _ (only_fine s q c formed))
+  metrics_give formed = ap (λ (a : Answered PerformanceMetrics). says a.answer) (unless_fine (weigh_only s q c) _ _ (only_fine s q c formed))
 
   module _ (x : PerformanceSnapshot) where
     -- a snapshot that is not refused is for a well formed session,
-    apply_found : weigh_apply s q c x ≡ Weighed.Fine → well_formed s q c ≡ true
+    apply_found : weigh_apply s q c x ≡ Ok tt → well_formed s q c ≡ true
     unfolding weigh_apply
     apply_found fine = not-false _ (passed _ _ _ fine).0
 
     -- and has a gain from 0 to 2
-    apply_gain : weigh_apply s q c x ≡ Weighed.Fine → between zero32 two32 x.gain ≡ true
+    apply_gain : weigh_apply s q c x ≡ Ok tt → between zero32 two32 x.gain ≡ true
     unfolding weigh_apply
     apply_gain fine = let p1 = passed _ _ _ fine in not-false _ (passed _ _ _ p1.1).0
 
@@ -190,7 +187,7 @@ module _ (s : Session) (q c : List ℕ) where
     apply_formed : well_formed (apply_of s q c x).session q c ≡ well_formed s q c
     unfolding apply_of
     apply_formed =
-        unless_both {A = Answered} _ _ _ (λ a. well_formed a.session q c ≡ well_formed s q c) (λ k. refl)
+        unless_both {A = Answered (Unit {0})} _ _ _ (λ a. well_formed a.session q c ≡ well_formed s q c) (λ k. refl)
         (λ fine. stage_kept s q c (apply_found fine) x (apply_gain fine) ∙ sym (apply_found fine))
 
     -- well formed in, well formed out,
@@ -205,9 +202,9 @@ module _ (s : Session) (q c : List ℕ) where
     -- the numbers stay in their types,
     pub apply_typed : Typed s → Typed (apply_of s q c x).session
     unfolding apply_of
-    apply_typed t = unless_both {A = Answered} _ _ _ (λ a. Typed a.session) (λ k. t) (λ fine. record { bank = t.bank; voices = t.voices })
+    apply_typed t = unless_both {A = Answered (Unit {0})} _ _ _ (λ a. Typed a.session) (λ k. t) (λ fine. record { bank = t.bank; voices = t.voices })
 
     -- and refused it leaves the session
     pub apply_refused : (n : ℕ) → says (apply_of s q c x).answer ≡ refused n → (apply_of s q c x).session ≡ s
     unfolding apply_of
-    apply_refused = refused_leaves {A = Answered} _ _ _ (λ a. says a.answer) (λ a. a.session) tt s refl (λ k. refl)
+    apply_refused = refused_leaves {A = Answered (Unit {0})} _ _ _ (λ a. says a.answer) (λ a. a.session) tt s refl (λ k. refl)

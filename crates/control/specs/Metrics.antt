@@ -1,12 +1,11 @@
 -- Metrics. Definitions only.
-use Rattle.std.specs.Prelude.{ℕ, List}
+use Rattle.std.specs.Prelude.{ℕ, List, Ok, Err}
 use Rattle.session.specs.declared.Session.{Session}
 use Rattle.session.specs.Refusal.{unless}
 use Rattle.session.specs.WellFormed.{weigh_only}
 use Rattle.control.specs.declared.PerformanceMetrics.{PerformanceMetrics}
-use Rattle.control.specs.declared.MetricsAnswer.{MetricsAnswer}
-use Rattle.control.specs.declared.MetricsAnswered.{MetricsAnswered}
-use Rattle.control.specs.Answer.{metrics_answered}
+use Rattle.session.specs.declared.Answered.{Answered}
+use Rattle.session.specs.Answer.{answered}
 
 -- frames rendered equals the clock
 abbrev pub metered : Session → PerformanceMetrics
@@ -21,5 +20,5 @@ metered s =
     }
 
 -- reading them changes nothing
-unfoldable pub metrics_of : Session → List ℕ → List ℕ → MetricsAnswered
-metrics_of s q c = unless (weigh_only s q c) (λ k. metrics_answered (MetricsAnswer.Refused k) s) (metrics_answered (MetricsAnswer.Read (metered s)) s)
+unfoldable pub metrics_of : Session → List ℕ → List ℕ → Answered PerformanceMetrics
+metrics_of s q c = unless (weigh_only s q c) (λ k. answered (Err k) s) (answered (Ok (metered s)) s)

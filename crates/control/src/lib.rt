@@ -6,26 +6,13 @@ ghost use Rattle.session.specs.Session.{with_stage, extent_now};
 ghost use Rattle.control.specs.Capture.{capturing, start_capture_of, weigh_stop, stop_capture_of};
 ghost use Rattle.control.specs.Snapshot.{snapped, snapshot_of, weigh_apply, transport_by, stage_by, apply_of};
 ghost use Rattle.control.specs.Metrics.{metered, metrics_of};
-ghost use Rattle.control.specs.declared.StopAnswered.{StopAnswered};
+ghost use Rattle.session.specs.declared.Answered.{Answered};
 
 use counts::SongFrame;
 use ramp::Tween;
-use session::{Answer, Answered, Refusal, Session, Weighed};
+use session::{Answered, Refusal, Session};
 use stage::Stage;
 use transport::{LoopRange, Transport, TransportState};
-
-/// The answer of stopping capture: how many records were copied.
-#[derive(Clone, Copy)]
-pub enum StopAnswer {
-    Copied(usize),
-    Refused(Refusal),
-}
-
-#[derive(Clone, Copy)]
-pub struct StopAnswered {
-    pub answer: StopAnswer,
-    pub session: Session,
-}
 
 /// A control snapshot: position, state, the gain that the master is heading for, and the loop.
 #[derive(Clone, Copy)]
@@ -34,18 +21,6 @@ pub struct PerformanceSnapshot {
     pub state: TransportState,
     pub gain: f32,
     pub looped: LoopRange,
-}
-
-#[derive(Clone, Copy)]
-pub enum SnapshotAnswer {
-    Taken(PerformanceSnapshot),
-    Refused(Refusal),
-}
-
-#[derive(Clone, Copy)]
-pub struct SnapshotAnswered {
-    pub answer: SnapshotAnswer,
-    pub session: Session,
 }
 
 /// Frames rendered, commands executed and dropped, the deepest queue, swaps and stingers fired.
@@ -58,18 +33,6 @@ pub struct PerformanceMetrics {
     pub deepest: usize,
     pub swaps: u64,
     pub fired: u64,
-}
-
-#[derive(Clone, Copy)]
-pub enum MetricsAnswer {
-    Read(PerformanceMetrics),
-    Refused(Refusal),
-}
-
-#[derive(Clone, Copy)]
-pub struct MetricsAnswered {
-    pub answer: MetricsAnswer,
-    pub session: Session,
 }
 
 // ---- capture
@@ -86,55 +49,55 @@ fn capturing(mut s: Session, on: bool) -> Session
 }
 
 /// Capture starts empty each time, also while it runs.
-pub fn start_capture(s: Session, queue: &[u64], capture: &[u64]) -> Answered
+pub fn start_capture(s: Session, queue: &[u64], capture: &[u64]) -> Answered<()>
     ensures { result ≡ start_capture_of s queue.now capture.now }
 {
     let weighed = session::weigh_only(s, queue, capture);
     match weighed {
-        Weighed::Fine => Answered {
-            answer: Answer::Done,
+        Ok(()) => Answered {
+            answer: Ok(()),
             session: capturing(s, true),
         },
-        Weighed::Refused(k) => Answered {
-            answer: Answer::Refused(k),
+        Err(k) => Answered {
+            answer: Err(k),
             session: s,
         },
     }
 }
 
 /// Stopping capture: 1, 20.
-pub fn weigh_stop(s: Session, queue: &[u64], capture: &[u64], list: &[u64]) -> Weighed
+pub fn weigh_stop(s: Session, queue: &[u64], capture: &[u64], list: &[u64]) -> Result<(), Refusal>
     ensures { result ≡ weigh_stop s queue.now capture.now list.now }
 {
     if !session::well_formed(s, queue, capture) {
-        return Weighed::Refused(Refusal::NotWellFormed);
+        return Err(Refusal::NotWellFormed);
     }
     let d = s.desk;
     let captured = session::captured_now(d);
     let places = captured * 5;
     if list.len() < places {
-        return Weighed::Refused(Refusal::ListTooShort);
+        return Err(Refusal::ListTooShort);
     }
-    Weighed::Fine
+    Ok(())
 }
 
 /// Stopping copies its records to the list's front and keeps the rest of the list; none if capture is off.
-pub fn stop_capture(s: Session, queue: &[u64], capture: &[u64], list: &mut [u64]) -> StopAnswered
-    ensures { ◌≡◌ {A = StopAnswered × List ℕ} (result, list.new) (stop_capture_of s queue.now capture.now list.old) }
+pub fn stop_capture(s: Session, queue: &[u64], capture: &[u64], list: &mut [u64]) -> Answered<usize>
+    ensures { ◌≡◌ {A = Answered ℕ × List ℕ} (result, list.new) (stop_capture_of s queue.now capture.now list.old) }
 {
     let weighed = weigh_stop(s, queue, capture, list);
     match weighed {
-        Weighed::Fine => {
+        Ok(()) => {
             let d = s.desk;
             let captured = session::captured_now(d);
             timeline::copy_records(list, capture, captured);
-            StopAnswered {
-                answer: StopAnswer::Copied(captured),
+            Answered {
+                answer: Ok(captured),
                 session: capturing(s, false),
             }
         }
-        Weighed::Refused(k) => StopAnswered {
-            answer: StopAnswer::Refused(k),
+        Err(k) => Answered {
+            answer: Err(k),
             session: s,
         },
     }
@@ -155,33 +118,38 @@ fn snapped(s: Session) -> PerformanceSnapshot
 }
 
 /// Taking a snapshot changes nothing.
-pub fn snapshot(s: Session, queue: &[u64], capture: &[u64]) -> SnapshotAnswered
+pub fn snapshot(s: Session, queue: &[u64], capture: &[u64]) -> Answered<PerformanceSnapshot>
     ensures { result ≡ snapshot_of s queue.now capture.now }
 {
     let weighed = session::weigh_only(s, queue, capture);
     match weighed {
-        Weighed::Fine => SnapshotAnswered {
-            answer: SnapshotAnswer::Taken(snapped(s)),
+        Ok(()) => Answered {
+            answer: Ok(snapped(s)),
             session: s,
         },
-        Weighed::Refused(k) => SnapshotAnswered {
-            answer: SnapshotAnswer::Refused(k),
+        Err(k) => Answered {
+            answer: Err(k),
             session: s,
         },
     }
 }
 
 /// Applying a snapshot: 1, 14.
-pub fn weigh_apply(s: Session, queue: &[u64], capture: &[u64], x: PerformanceSnapshot) -> Weighed
+pub fn weigh_apply(
+    s: Session,
+    queue: &[u64],
+    capture: &[u64],
+    x: PerformanceSnapshot,
+) -> Result<(), Refusal>
     ensures { result ≡ weigh_apply s queue.now capture.now x }
 {
     if !session::well_formed(s, queue, capture) {
-        return Weighed::Refused(Refusal::NotWellFormed);
+        return Err(Refusal::NotWellFormed);
     }
     if !ramp::is_between(0.0, 2.0, x.gain) {
-        return Weighed::Refused(Refusal::BadGain);
+        return Err(Refusal::BadGain);
     }
-    Weighed::Fine
+    Ok(())
 }
 
 /// The lesser of a position and the length.
@@ -246,17 +214,17 @@ pub fn apply_snapshot(
     queue: &[u64],
     capture: &[u64],
     x: PerformanceSnapshot,
-) -> Answered
+) -> Answered<()>
     ensures { result ≡ apply_of s queue.now capture.now x }
 {
     let weighed = weigh_apply(s, queue, capture, x);
     match weighed {
-        Weighed::Fine => Answered {
-            answer: Answer::Done,
+        Ok(()) => Answered {
+            answer: Ok(()),
             session: applied(s, x),
         },
-        Weighed::Refused(k) => Answered {
-            answer: Answer::Refused(k),
+        Err(k) => Answered {
+            answer: Err(k),
             session: s,
         },
     }
@@ -282,17 +250,17 @@ fn metered(s: Session) -> PerformanceMetrics
 }
 
 /// Reading the metrics changes nothing.
-pub fn metrics(s: Session, queue: &[u64], capture: &[u64]) -> MetricsAnswered
+pub fn metrics(s: Session, queue: &[u64], capture: &[u64]) -> Answered<PerformanceMetrics>
     ensures { result ≡ metrics_of s queue.now capture.now }
 {
     let weighed = session::weigh_only(s, queue, capture);
     match weighed {
-        Weighed::Fine => MetricsAnswered {
-            answer: MetricsAnswer::Read(metered(s)),
+        Ok(()) => Answered {
+            answer: Ok(metered(s)),
             session: s,
         },
-        Weighed::Refused(k) => MetricsAnswered {
-            answer: MetricsAnswer::Refused(k),
+        Err(k) => Answered {
+            answer: Err(k),
             session: s,
         },
     }

@@ -1,5 +1,5 @@
 -- What a dry run promises of the full session. Definitions only.
-use Rattle.std.specs.Prelude.{◌≡◌, false, List, ℕ, ◌*◌, length, take, Float}
+use Rattle.std.specs.Prelude.{◌≡◌, false, List, ℕ, ◌*◌, length, take, Float, Ok}
 use Rattle.laws.specs.Queue.{Each}
 use Rattle.tourfile.specs.declared.TourAnswer.{TourAnswer}
 use Rattle.tourfile.specs.Reader.{read_of, read_into}
@@ -7,8 +7,7 @@ use Rattle.bank.specs.Sample.{frames_of, is_odd}
 use Rattle.session.specs.declared.Session.{Session}
 use Rattle.block.specs.Block.{blocks_of, joined}
 use Rattle.clips.specs.Own.{clips_of}
-use Rattle.submission.specs.declared.ReplayAnswer.{ReplayAnswer}
-use Rattle.submission.specs.declared.ReplayAnswered.{ReplayAnswered}
+use Rattle.session.specs.declared.Answered.{Answered}
 use Rattle.submission.specs.Replay.{replay_of}
 use Rattle.cliplist.specs.Start.{Starts}
 use Rattle.cliplist.specs.Words.{entry_at, entries_in}
@@ -19,6 +18,7 @@ use Rattle.dryrun.specs.declared.DryDone.{DryDone}
 use Rattle.dryrun.specs.declared.DryAnswer.{DryAnswer}
 use Rattle.dryrun.specs.Blocks.{frames_in}
 use Rattle.dryrun.specs.Call.{Lent, dry_run_of}
+use Rattle.submission.specs.declared.Report.{Report}
 
 -- a session starts with the clips of a list, in its mode
 abbrev pub StartsWith : ℕ → List ℕ → Session → Type 0
@@ -35,8 +35,8 @@ pub record Reads (file : List ℕ) (x : Lent) (d : DryDone) (y : Lent) (t : Sess
 
 -- it has done what a session does that has replayed the tour and makes blocks: the same report; the same clock, song, position, state,
 -- loop and laps at their end, with as many commands still queued; and a row of the sheet for each command that they executed
-pub record Plays (x : Lent) (d : DryDone) (y : Lent) (z : ReplayAnswered × List ℕ) (c : List ℕ) (pool : List Float) (outs : List (List Float)) : Type 0 where
-  pub report : z.0.answer ≡ ReplayAnswer.Replayed d.report
+pub record Plays (x : Lent) (d : DryDone) (y : Lent) (z : Answered Report × List ℕ) (c : List ℕ) (pool : List Float) (outs : List (List Float)) : Type 0 where
+  pub report : z.0.answer ≡ Ok d.report
   pub stands : d.run.dry ≡ dry_of (blocks_of z.0.session z.1 c pool outs).0.stage
   pub queued : d.run.queued ≡ (blocks_of z.0.session z.1 c pool outs).0.queued
   pub rows : d.run.rows ≡ length (executed_by z.0.session z.1 c pool outs)

@@ -17,7 +17,7 @@ ghost use Rattle.dryrun.specs.Call.{dry_number, Lent, lent, records_ran, by_read
 ghost use Rattle.dryrun.specs.Ready.{Fresh};
 
 use leaps::{Dry, Run};
-use session::{CLOCK_END, Session, Weighed};
+use session::{CLOCK_END, Session};
 use stage::Stage;
 use submission::{ReplayState, Report};
 use timeline::Row;
@@ -78,8 +78,8 @@ fn reason(s: Session, queue: &[u64], x: Row) -> u64
 {
     let weighed = submission::weigh_replayed(s, queue, x);
     match weighed {
-        Weighed::Fine => 0,
-        Weighed::Refused(k) => k.number() as u64,
+        Ok(()) => 0,
+        Err(k) => k.number() as u64,
     }
 }
 

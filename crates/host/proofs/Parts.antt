@@ -13,9 +13,9 @@ use Rattle.bank.specs.declared.Bank.{Bank}
 use Rattle.bank.proofs.Places.{get_d_any}
 use Rattle.stage.specs.declared.Stage.{Stage}
 use Rattle.session.specs.declared.Desk.{Desk}
-use Rattle.block.specs.declared.BlockAnswer.{BlockAnswer}
-use Rattle.block.specs.declared.BlockAnswered.{BlockAnswered}
-use Rattle.block.specs.Block.{of_parts, block_answered, block_of}
+use Rattle.session.specs.declared.Answered.{Answered}
+use Rattle.session.specs.Answer.{answered}
+use Rattle.block.specs.Block.{of_parts, block_of}
 use Rattle.host.specs.declared.HostClip.{HostClip}
 use Rattle.host.specs.declared.HostSession.{HostSession}
 use Rattle.host.specs.declared.HostBlocked.{HostBlocked}
@@ -25,6 +25,8 @@ use Rattle.host.specs.Calls.{block_host}
 use Rattle.host.proofs.Mapped.{map_step, map_done}
 use Rattle.host.proofs.Weighed.{call_refused, call_done}
 use Rattle.host.proofs.Refusals.{weighed_fine, weighed_none}
+use Rattle.std.specs.Prelude.{Result}
+use Rattle.session.specs.declared.Refusal.{Refusal}
 
 module _ (h : HostSession) where
   -- slot k holds a song or a stinger, if it is used
@@ -100,13 +102,13 @@ module _ (h : HostSession) (q c : List ℕ) (pool out : List Float) where
   block_unmatched e = call_refused 1 _ _ _ (sym (weighed_none h q c true e)) (λ z. absurd (omega arith)) refl
 
   -- and else it answers as the block over the parts does
-  pub block_matched : (b : Bank) (t : Stage) (d : Desk) (x a : BlockAnswer) (u : Stage) (n : ℕ) (o : List Float) → is_session h ≡ true
+  pub block_matched : (b : Bank) (t : Stage) (d : Desk) (x a : Result ℕ Refusal) (u : Stage) (n : ℕ) (o : List Float) → is_session h ≡ true
       → b ≡ (session_of h).bank → t ≡ stage_of h → d ≡ (session_of h).desk → x ≡ a
-      → ◌≡◌ {A = BlockAnswered × List Float} (block_answered x (of_parts h.settings b u n d), o) (block_of (of_parts h.settings b t h.queued d) q c pool out)
+      → ◌≡◌ {A = Answered ℕ × List Float} (answered x (of_parts h.settings b u n d), o) (block_of (of_parts h.settings b t h.queued d) q c pool out)
       → ◌≡◌ {A = HostBlocked × List Float} (blocked_with h a (host_of (of_parts h.settings b u n d)), o) (block_host h q c pool out)
   unfolding block_host session_of
   block_matched b t d x a u n o m eb et ed ea e =
       call_done 0 _ _ _ (sym (weighed_fine h q c true m refl)) refl
-      (ap (λ (y : BlockAnswer). (blocked_with h y (host_of (of_parts h.settings b u n d)), o)) (sym ea)
-      ∙ ap (λ (z : BlockAnswered × List Float). (blocked_with h z.0.answer (host_of z.0.session), z.1)) e
+      (ap (λ (y : Result ℕ Refusal). (blocked_with h y (host_of (of_parts h.settings b u n d)), o)) (sym ea)
+      ∙ ap (λ (z : Answered ℕ × List Float). (blocked_with h z.0.answer (host_of z.0.session), z.1)) e
       ∙ rw (eb, et, ed))

@@ -10,7 +10,6 @@ use borrow.Author.Tests.{ne_eqb}
 use Rattle.counts.specs.declared.SongFrame.{SongFrame}
 use Rattle.counts.specs.declared.Handle.{Handle}
 use Rattle.session.specs.declared.Refusal.{Refusal}
-use Rattle.session.specs.declared.Weighed.{Weighed}
 use Rattle.session.specs.Refusal.{number_of, unless}
 use Rattle.session.specs.Session.{turned_away}
 use Rattle.session.specs.WellFormed.{well_formed}
@@ -42,6 +41,7 @@ use Rattle.host.specs.declared.HostMetrics.{HostMetrics}
 use Rattle.host.specs.Kept.{is_session, session_of}
 use Rattle.host.specs.Answers.{with_dropped, turned, weigh_host, unless as unless_host, refused, answered_by, load_refused, loaded_by, submit_refused, submitted_by, block_refused, blocked_by, pump_refused, pumped_by, replay_refused, replayed_by, stop_refused, stopped_by, snapshot_refused, snapped_by, metrics_refused, metered_by}
 use Rattle.host.specs.Calls.{load_host, retire_host, submit_host, transition_host, replay_host, block_host, pump_host, start_capture_host, stop_capture_host, snapshot_host, apply_host, metrics_host}
+use Rattle.std.specs.Prelude.{Result}
 
 -- beside a lent store,
 abbrev pub with_store : {A B S : Type 0} → (A → B) → A × S → B × S
@@ -100,14 +100,14 @@ module _ (h : HostSession) (q c : List ℕ) where
 -- ---- what is refused, by whichever number
 
 -- what holds of every refusal, the host's own and the call's, and of what the call does, holds of what a host reads,
-pub each_way : {A B : Type 0} (P : B → Type 0) (give : ℕ → B) (host : A → B) (n : ℕ) (w : Weighed) (refusal : Refusal → A) (done : A)
+pub each_way : {A B : Type 0} (P : B → Type 0) (give : ℕ → B) (host : A → B) (n : ℕ) (w : Result (Unit {0}) Refusal) (refusal : Refusal → A) (done : A)
     → ((m : ℕ) → P (give m)) → ((k : Refusal) → P (host (refusal k))) → P (host done) → P (unless_host n give (host (unless w refusal done)))
 unfolding unless_host
 each_way P give host zero w refusal done own refuses does = unless_both w refusal done (λ a. P (host a)) refuses (λ fine. does)
 each_way P give host (suc n) w refusal done own refuses does = own (suc n)
 
 -- so where a host reads another number than 0, it has what is given for that number,
-pub stays : {A B : Type 0} (number : B → ℕ) (give : ℕ → B) (host : A → B) (n : ℕ) (w : Weighed) (refusal : Refusal → A) (done : A)
+pub stays : {A B : Type 0} (number : B → ℕ) (give : ℕ → B) (host : A → B) (n : ℕ) (w : Result (Unit {0}) Refusal) (refusal : Refusal → A) (done : A)
     → ((m : ℕ) → number (give m) ≡ m) → ((k : Refusal) → host (refusal k) ≡ give (number_of k)) → number (host done) ≡ 0
     → let z : B = unless_host n give (host (unless w refusal done)) in (number z ≡ 0 → ⊥) → z ≡ give (number z)
 stays {B} number give host n w refusal done told refuses does =

@@ -14,36 +14,24 @@ use Rattle.bank.specs.declared.Kind.{Kind}
 use Rattle.stage.specs.declared.Settings.{Settings}
 use Rattle.session.specs.declared.Session.{Session}
 use Rattle.session.specs.declared.Refusal.{Refusal}
-use Rattle.session.specs.declared.Weighed.{Weighed}
 use Rattle.session.specs.declared.Answered.{Answered}
 use Rattle.session.specs.Refusal.{number_of, unless}
 use Rattle.session.specs.WellFormed.{weigh_only}
-use Rattle.session.specs.Answer.{Says, refused, says}
+use Rattle.session.specs.Answer.{Says, refused, says, answered}
 use Rattle.session.proofs.Refuse.{number_some, numbered, other, refused_or_done}
-use Rattle.block.specs.declared.BlockAnswered.{BlockAnswered}
-use Rattle.block.specs.Block.{says_block, weigh_block, block_of}
+use Rattle.block.specs.Block.{weigh_block, block_of}
 use Rattle.ring.specs.declared.SampleRing.{SampleRing}
 use Rattle.pump.specs.declared.Pumped.{Pumped}
 use Rattle.pump.specs.Pump.{says_pump, weigh_pump, pump_of}
-use Rattle.clips.specs.declared.LoadAnswer.{LoadAnswer}
-use Rattle.clips.specs.declared.LoadAnswered.{LoadAnswered}
-use Rattle.clips.specs.Answer.{says_load, load_answered}
 use Rattle.clips.specs.Open.{no_session, weigh_open, open_done, open_of}
 use Rattle.clips.specs.Load.{weigh_load, load_of}
 use Rattle.clips.specs.Retire.{weigh_retire, retire_of}
 use Rattle.submission.specs.declared.Report.{Report}
-use Rattle.submission.specs.declared.SubmitAnswered.{SubmitAnswered}
-use Rattle.submission.specs.declared.ReplayAnswered.{ReplayAnswered}
-use Rattle.submission.specs.Answer.{says_submit, says_replay}
 use Rattle.submission.specs.Submit.{taken, submit_of}
 use Rattle.submission.specs.Transition.{transition_of}
 use Rattle.submission.specs.Replay.{replay_of}
 use Rattle.control.specs.declared.PerformanceSnapshot.{PerformanceSnapshot}
 use Rattle.control.specs.declared.PerformanceMetrics.{PerformanceMetrics}
-use Rattle.control.specs.declared.StopAnswered.{StopAnswered}
-use Rattle.control.specs.declared.SnapshotAnswered.{SnapshotAnswered}
-use Rattle.control.specs.declared.MetricsAnswered.{MetricsAnswered}
-use Rattle.control.specs.Answer.{says_stop, says_snapshot, says_metrics}
 use Rattle.control.specs.Capture.{weigh_stop, start_capture_of, stop_capture_of}
 use Rattle.control.specs.Snapshot as control
 use Rattle.control.specs.Metrics.{metrics_of}
@@ -66,6 +54,7 @@ use Rattle.host.specs.Answers.{says_by, turned, weigh_host, unless as unless_hos
 use Rattle.host.specs.Calls.{open_host, load_host, retire_host, submit_host, transition_host, replay_host, block_host, pump_host, start_capture_host, stop_capture_host, snapshot_host, apply_host, metrics_host}
 use Rattle.host.proofs.Round.{there_and_back, snapshot_back}
 use Rattle.host.proofs.Refusals.{with_store, with_stores, turned_matches, turned_same}
+use Rattle.std.specs.Prelude.{Result, Err}
 
 -- ---- what a host reads, in the rules' terms
 
@@ -73,29 +62,29 @@ use Rattle.host.proofs.Refusals.{with_store, with_stores, turned_matches, turned
 abbrev pub read_answered : HostAnswered → Says (Unit {0}) × Session
 read_answered r = (says_by r.refusal tt, session_of r.session)
 
-abbrev pub told_answered : Answered → Says (Unit {0}) × Session
+abbrev pub told_answered : Answered (Unit {0}) → Says (Unit {0}) × Session
 told_answered r = (says r.answer, r.session)
 
 -- a handle: open and load,
 abbrev pub read_loaded : HostLoaded → Says Handle × Session
 read_loaded r = (says_by r.refusal r.handle, session_of r.session)
 
-abbrev pub told_loaded : LoadAnswered → Says Handle × Session
-told_loaded r = (says_load r.answer, r.session)
+abbrev pub told_loaded : Answered Handle → Says Handle × Session
+told_loaded r = (says r.answer, r.session)
 
 -- a submission number: submit and transition,
 abbrev pub read_submitted : HostSubmitted → Says ℕ × Session
 read_submitted r = (says_by r.refusal r.number, session_of r.session)
 
-abbrev pub told_submitted : SubmitAnswered → Says ℕ × Session
-told_submitted r = (says_submit r.answer, r.session)
+abbrev pub told_submitted : Answered ℕ → Says ℕ × Session
+told_submitted r = (says r.answer, r.session)
 
 -- the passes made: block,
 abbrev pub read_blocked : HostBlocked → Says ℕ × Session
 read_blocked r = (says_by r.refusal r.passes, session_of r.session)
 
-abbrev pub told_blocked : BlockAnswered → Says ℕ × Session
-told_blocked r = (says_block r.answer, r.session)
+abbrev pub told_blocked : Answered ℕ → Says ℕ × Session
+told_blocked r = (says r.answer, r.session)
 
 -- the frames made with their passes, and the ring: pump,
 abbrev pub read_pumped : HostPumped → Says (ℕ × ℕ) × Session × SampleRing
@@ -108,29 +97,29 @@ told_pumped x = (says_pump x.answer, x.session, x.ring)
 abbrev pub read_replayed : HostReplayed → Says Report × Session
 read_replayed r = (says_by r.refusal r.report, session_of r.session)
 
-abbrev pub told_replayed : ReplayAnswered → Says Report × Session
-told_replayed r = (says_replay r.answer, r.session)
+abbrev pub told_replayed : Answered Report → Says Report × Session
+told_replayed r = (says r.answer, r.session)
 
 -- how many records: stop capture,
 abbrev pub read_stopped : HostStopped → Says ℕ × Session
 read_stopped r = (says_by r.refusal r.copied, session_of r.session)
 
-abbrev pub told_stopped : StopAnswered → Says ℕ × Session
-told_stopped r = (says_stop r.answer, r.session)
+abbrev pub told_stopped : Answered ℕ → Says ℕ × Session
+told_stopped r = (says r.answer, r.session)
 
 -- a snapshot,
 abbrev pub read_snapped : HostSnapped → Says PerformanceSnapshot × Session
 read_snapped r = (says_by r.refusal (snapshot_of r.snapshot), session_of r.session)
 
-abbrev pub told_snapped : SnapshotAnswered → Says PerformanceSnapshot × Session
-told_snapped r = (says_snapshot r.answer, r.session)
+abbrev pub told_snapped : Answered PerformanceSnapshot → Says PerformanceSnapshot × Session
+told_snapped r = (says r.answer, r.session)
 
 -- and metrics
 abbrev pub read_metrics : HostMetrics → Says PerformanceMetrics × Session
 read_metrics r = (says_by r.refusal r.metrics, session_of r.session)
 
-abbrev pub told_metrics : MetricsAnswered → Says PerformanceMetrics × Session
-told_metrics r = (says_metrics r.answer, r.session)
+abbrev pub told_metrics : Answered PerformanceMetrics → Says PerformanceMetrics × Session
+told_metrics r = (says r.answer, r.session)
 
 -- ---- what is refused
 
@@ -143,11 +132,11 @@ abbrev counted : ℕ → Bool
 counted n = eqb n 15
 
 -- it is the queue that is full
-abbrev pub full : Weighed → Bool
+abbrev pub full : Result (Unit {0}) Refusal → Bool
 full = numbered counted
 
 -- what is refused otherwise leaves the session
-leaves : (h : HostSession) (w : Weighed) (k : Refusal) → full w ≡ false → w ≡ Weighed.Refused k → session_of (turned (number_of k) h) ≡ session_of h
+leaves : (h : HostSession) (w : Result (Unit {0}) Refusal) (k : Refusal) → full w ≡ false → w ≡ Err k → session_of (turned (number_of k) h) ≡ session_of h
 leaves h w k e r = ap session_of (turned_same (number_of k) h (eqb-false (number_of k) 15 (ap full (sym r) ∙ e)))
 
 -- 7, 1, 2, 3, 5, 6, 13, 10: opening never gives 15,
@@ -187,8 +176,8 @@ module _ (s : Session) (q c : List ℕ) where
 
 -- ---- one law for every call: where a refusal reads as it is told, and so does what is done, the call does
 
-pub under : {A B T : Type 0} (host : A → B) (read : B → T) (told : A → T) (n : ℕ) (refuses : ℕ → B) (w : Weighed) (refusal : Refusal → A) (done : A)
-    → n ≡ 0 → ((k : Refusal) → w ≡ Weighed.Refused k → read (host (refusal k)) ≡ told (refusal k)) → read (host done) ≡ told done
+pub under : {A B T : Type 0} (host : A → B) (read : B → T) (told : A → T) (n : ℕ) (refuses : ℕ → B) (w : Result (Unit {0}) Refusal) (refusal : Refusal → A) (done : A)
+    → n ≡ 0 → ((k : Refusal) → w ≡ Err k → read (host (refusal k)) ≡ told (refusal k)) → read (host done) ≡ told done
     → read (unless_host n refuses (host (unless w refusal done))) ≡ told (unless w refusal done)
 unfolding unless_host
 under host read told n refuses w refusal done e f g = rw e (refused_or_done w refusal done (λ z. read (host z) ≡ told z) f (λ fine. g))
@@ -200,7 +189,7 @@ pub open_under : (x : Settings) (q c : List ℕ) (pool samples : List Float) (ra
     → with_store read_loaded (open_host x q c pool samples rate extent) ≡ with_store told_loaded (open_of x q c pool samples rate extent)
 unfolding open_host open_of
 open_under x q c pool samples rate extent =
-    refused_or_done (weigh_open x q c pool samples rate extent) (λ k. (load_answered (LoadAnswer.Refused k) no_session, pool)) (open_done x pool samples rate extent)
+    refused_or_done (weigh_open x q c pool samples rate extent) (λ k. (answered (Err k) no_session, pool)) (open_done x pool samples rate extent)
     (λ z. with_store read_loaded (opened_by z.0, z.1) ≡ with_store told_loaded z)
     (λ k w. rw (number_says, leaves (host_of no_session) _ k (open_other x q c pool samples rate extent) w, there_and_back))
     (λ fine. rw there_and_back)

@@ -1,40 +1,23 @@
 -- Answers as a host reads them: 0 or the refusal's number, what the call gives, and the session. Definitions only.
-use Rattle.std.specs.Prelude.{ℕ, zero, suc, ◌+◌, ◌-◌, ◌^◌, min, Bool, cond, List, eqb}
+use Rattle.std.specs.Prelude.{ℕ, zero, suc, ◌+◌, ◌-◌, ◌^◌, min, Bool, cond, List, eqb, Result, Ok, Err}
 use Rattle.counts.specs.declared.Handle.{Handle}
 use Rattle.ramp.specs.Number.{zero32}
 use Rattle.transport.specs.declared.LoopRange.{LoopRange}
-use Rattle.session.specs.declared.Answer.{Answer}
 use Rattle.session.specs.declared.Answered.{Answered}
 use Rattle.session.specs.Refusal.{number_of}
 use Rattle.session.specs.Answer.{Says}
 use Rattle.session.specs.Answer as rules
 use Rattle.session.specs.WellFormed.{well_formed}
-use Rattle.block.specs.declared.BlockAnswer.{BlockAnswer}
-use Rattle.block.specs.declared.BlockAnswered.{BlockAnswered}
 use Rattle.ring.specs.declared.SampleRing.{SampleRing}
-use Rattle.ring.specs.declared.DrainAnswer.{DrainAnswer}
 use Rattle.ring.specs.declared.Drained.{Drained}
 use Rattle.tourfile.specs.declared.TourAnswer.{TourAnswer}
 use Rattle.tourfile.specs.Answer.{fault_number, SaysTour, gives, refuses}
 use Rattle.remains.specs.declared.SalvageAnswer.{SalvageAnswer}
 use Rattle.remains.specs.Salvage.{SaysSalvage, gives as gives_salvage, refuses as refuses_salvage}
-use Rattle.pump.specs.declared.PumpAnswer.{PumpAnswer}
 use Rattle.pump.specs.declared.Pumped.{Pumped}
-use Rattle.clips.specs.declared.LoadAnswer.{LoadAnswer}
-use Rattle.clips.specs.declared.LoadAnswered.{LoadAnswered}
 use Rattle.submission.specs.declared.Report.{Report}
-use Rattle.submission.specs.declared.SubmitAnswer.{SubmitAnswer}
-use Rattle.submission.specs.declared.SubmitAnswered.{SubmitAnswered}
-use Rattle.submission.specs.declared.ReplayAnswer.{ReplayAnswer}
-use Rattle.submission.specs.declared.ReplayAnswered.{ReplayAnswered}
 use Rattle.submission.specs.Replay.{report_of}
 use Rattle.control.specs.declared.PerformanceMetrics.{PerformanceMetrics}
-use Rattle.control.specs.declared.StopAnswer.{StopAnswer}
-use Rattle.control.specs.declared.StopAnswered.{StopAnswered}
-use Rattle.control.specs.declared.SnapshotAnswer.{SnapshotAnswer}
-use Rattle.control.specs.declared.SnapshotAnswered.{SnapshotAnswered}
-use Rattle.control.specs.declared.MetricsAnswer.{MetricsAnswer}
-use Rattle.control.specs.declared.MetricsAnswered.{MetricsAnswered}
 use Rattle.host.specs.declared.HostSession.{HostSession}
 use Rattle.host.specs.declared.HostSnapshot.{HostSnapshot}
 use Rattle.host.specs.declared.HostAnswered.{HostAnswered}
@@ -51,6 +34,9 @@ use Rattle.host.specs.declared.HostSnapped.{HostSnapped}
 use Rattle.host.specs.declared.HostMetrics.{HostMetrics}
 use Rattle.host.specs.Kept.{loop_numbers, no_handle, is_session, session_of, host_of}
 use Rattle.host.specs.Arguments.{snapshot_numbers}
+use Rattle.control.specs.declared.PerformanceSnapshot.{PerformanceSnapshot}
+use Rattle.pump.specs.declared.Pushed.{Pushed}
+use Rattle.session.specs.declared.Refusal.{Refusal}
 
 -- what a host reads of an answer, in the rules' terms: 0 is its value, any other number its refusal
 abbrev pub says_by : {A : Type 0} → ℕ → A → Says A
@@ -104,11 +90,11 @@ answered n h = record { refusal = n; session = h }
 abbrev pub refused : HostSession → ℕ → HostAnswered
 refused h n = answered n (turned n h)
 
-abbrev pub answered_with : HostSession → Answer → HostSession → HostAnswered
-answered_with h Answer.Done t = answered 0 t
-answered_with h (Answer.Refused k) t = refused h (number_of k)
+abbrev pub answered_with : HostSession → Result (Unit {0}) Refusal → HostSession → HostAnswered
+answered_with h (Ok tt) t = answered 0 t
+answered_with h (Err k) t = refused h (number_of k)
 
-abbrev pub answered_by : HostSession → Answered → HostAnswered
+abbrev pub answered_by : HostSession → Answered (Unit {0}) → HostAnswered
 answered_by h r = answered_with h r.answer (host_of r.session)
 
 -- ---- a handle: open, load
@@ -119,15 +105,15 @@ loaded n x h = record { refusal = n; handle = x; session = h }
 abbrev pub load_refused : HostSession → ℕ → HostLoaded
 load_refused h n = loaded n no_handle (turned n h)
 
-abbrev pub loaded_with : HostSession → LoadAnswer → HostSession → HostLoaded
-loaded_with h (LoadAnswer.Loaded x) t = loaded 0 x t
-loaded_with h (LoadAnswer.Refused k) t = load_refused h (number_of k)
+abbrev pub loaded_with : HostSession → Result Handle Refusal → HostSession → HostLoaded
+loaded_with h (Ok x) t = loaded 0 x t
+loaded_with h (Err k) t = load_refused h (number_of k)
 
-abbrev pub loaded_by : HostSession → LoadAnswered → HostLoaded
+abbrev pub loaded_by : HostSession → Answered Handle → HostLoaded
 loaded_by h r = loaded_with h r.answer (host_of r.session)
 
 -- a refused opening has no session to hand back but the one that every call refuses
-abbrev pub opened_by : LoadAnswered → HostLoaded
+abbrev pub opened_by : Answered Handle → HostLoaded
 opened_by r = loaded_by (host_of r.session) r
 
 -- ---- a submission number: submit, transition
@@ -138,11 +124,11 @@ submitted n x h = record { refusal = n; number = x; session = h }
 abbrev pub submit_refused : HostSession → ℕ → HostSubmitted
 submit_refused h n = submitted n 0 (turned n h)
 
-abbrev pub submitted_with : HostSession → SubmitAnswer → HostSession → HostSubmitted
-submitted_with h (SubmitAnswer.Queued x) t = submitted 0 x t
-submitted_with h (SubmitAnswer.Refused k) t = submit_refused h (number_of k)
+abbrev pub submitted_with : HostSession → Result ℕ Refusal → HostSession → HostSubmitted
+submitted_with h (Ok x) t = submitted 0 x t
+submitted_with h (Err k) t = submit_refused h (number_of k)
 
-abbrev pub submitted_by : HostSession → SubmitAnswered → HostSubmitted
+abbrev pub submitted_by : HostSession → Answered ℕ → HostSubmitted
 submitted_by h r = submitted_with h r.answer (host_of r.session)
 
 -- ---- the passes made: block
@@ -153,11 +139,11 @@ blocked n x h = record { refusal = n; passes = x; session = h }
 abbrev pub block_refused : HostSession → ℕ → HostBlocked
 block_refused h n = blocked n 0 (turned n h)
 
-abbrev pub blocked_with : HostSession → BlockAnswer → HostSession → HostBlocked
-blocked_with h (BlockAnswer.Done x) t = blocked 0 x t
-blocked_with h (BlockAnswer.Refused k) t = block_refused h (number_of k)
+abbrev pub blocked_with : HostSession → Result ℕ Refusal → HostSession → HostBlocked
+blocked_with h (Ok x) t = blocked 0 x t
+blocked_with h (Err k) t = block_refused h (number_of k)
 
-abbrev pub blocked_by : HostSession → BlockAnswered → HostBlocked
+abbrev pub blocked_by : HostSession → Answered ℕ → HostBlocked
 blocked_by h r = blocked_with h r.answer (host_of r.session)
 
 -- ---- the frames made with their passes: pump
@@ -168,9 +154,9 @@ pumped n x p r h = record { refusal = n; frames = x; passes = p; ring = r; sessi
 abbrev pub pump_refused : HostSession → SampleRing → ℕ → HostPumped
 pump_refused h r n = pumped n 0 0 r (turned n h)
 
-abbrev pub pumped_with : HostSession → PumpAnswer → SampleRing → HostSession → HostPumped
-pumped_with h (PumpAnswer.Pumped x p) r t = pumped 0 x p r t
-pumped_with h (PumpAnswer.Refused k) r t = pump_refused h r (number_of k)
+abbrev pub pumped_with : HostSession → Result Pushed Refusal → SampleRing → HostSession → HostPumped
+pumped_with h (Ok x) r t = pumped 0 x.frames x.passes r t
+pumped_with h (Err k) r t = pump_refused h r (number_of k)
 
 abbrev pub pumped_by : HostSession → Pumped → HostPumped
 pumped_by h x = pumped_with h x.answer x.ring (host_of x.session)
@@ -180,9 +166,9 @@ pumped_by h x = pumped_with h x.answer x.ring (host_of x.session)
 abbrev pub drained : ℕ → ℕ → SampleRing → HostDrained
 drained n x r = record { refusal = n; frames = x; ring = r }
 
-abbrev pub drained_with : DrainAnswer → SampleRing → HostDrained
-drained_with (DrainAnswer.Drained x) r = drained 0 x r
-drained_with (DrainAnswer.Refused k) r = drained (number_of k) 0 r
+abbrev pub drained_with : Result ℕ Refusal → SampleRing → HostDrained
+drained_with (Ok x) r = drained 0 x r
+drained_with (Err k) r = drained (number_of k) 0 r
 
 abbrev pub drained_by : Drained → HostDrained
 drained_by x = drained_with x.answer x.ring
@@ -221,11 +207,11 @@ replayed n x h = record { refusal = n; report = x; session = h }
 abbrev pub replay_refused : HostSession → ℕ → HostReplayed
 replay_refused h n = replayed n (report_of 0 0 0) (turned n h)
 
-abbrev pub replayed_with : HostSession → ReplayAnswer → HostSession → HostReplayed
-replayed_with h (ReplayAnswer.Replayed x) t = replayed 0 x t
-replayed_with h (ReplayAnswer.Refused k) t = replay_refused h (number_of k)
+abbrev pub replayed_with : HostSession → Result Report Refusal → HostSession → HostReplayed
+replayed_with h (Ok x) t = replayed 0 x t
+replayed_with h (Err k) t = replay_refused h (number_of k)
 
-abbrev pub replayed_by : HostSession → ReplayAnswered → HostReplayed
+abbrev pub replayed_by : HostSession → Answered Report → HostReplayed
 replayed_by h r = replayed_with h r.answer (host_of r.session)
 
 -- ---- how many records: stop capture
@@ -236,11 +222,11 @@ stopped n x h = record { refusal = n; copied = x; session = h }
 abbrev pub stop_refused : HostSession → ℕ → HostStopped
 stop_refused h n = stopped n 0 (turned n h)
 
-abbrev pub stopped_with : HostSession → StopAnswer → HostSession → HostStopped
-stopped_with h (StopAnswer.Copied x) t = stopped 0 x t
-stopped_with h (StopAnswer.Refused k) t = stop_refused h (number_of k)
+abbrev pub stopped_with : HostSession → Result ℕ Refusal → HostSession → HostStopped
+stopped_with h (Ok x) t = stopped 0 x t
+stopped_with h (Err k) t = stop_refused h (number_of k)
 
-abbrev pub stopped_by : HostSession → StopAnswered → HostStopped
+abbrev pub stopped_by : HostSession → Answered ℕ → HostStopped
 stopped_by h r = stopped_with h r.answer (host_of r.session)
 
 -- ---- a snapshot
@@ -255,11 +241,11 @@ no_snapshot = record { position = record { 0 = 0 }; state = 0; gain = zero32; lo
 abbrev pub snapshot_refused : HostSession → ℕ → HostSnapped
 snapshot_refused h n = snapped n no_snapshot (turned n h)
 
-abbrev pub snapped_with : HostSession → SnapshotAnswer → HostSession → HostSnapped
-snapped_with h (SnapshotAnswer.Taken x) t = snapped 0 (snapshot_numbers x) t
-snapped_with h (SnapshotAnswer.Refused k) t = snapshot_refused h (number_of k)
+abbrev pub snapped_with : HostSession → Result PerformanceSnapshot Refusal → HostSession → HostSnapped
+snapped_with h (Ok x) t = snapped 0 (snapshot_numbers x) t
+snapped_with h (Err k) t = snapshot_refused h (number_of k)
 
-abbrev pub snapped_by : HostSession → SnapshotAnswered → HostSnapped
+abbrev pub snapped_by : HostSession → Answered PerformanceSnapshot → HostSnapped
 snapped_by h r = snapped_with h r.answer (host_of r.session)
 
 -- ---- metrics
@@ -273,9 +259,9 @@ no_metrics = record { rendered = 0; executed = 0; dropped = 0; deepest = 0; swap
 abbrev pub metrics_refused : HostSession → ℕ → HostMetrics
 metrics_refused h n = metered n no_metrics (turned n h)
 
-abbrev pub metered_with : HostSession → MetricsAnswer → HostSession → HostMetrics
-metered_with h (MetricsAnswer.Read x) t = metered 0 x t
-metered_with h (MetricsAnswer.Refused k) t = metrics_refused h (number_of k)
+abbrev pub metered_with : HostSession → Result PerformanceMetrics Refusal → HostSession → HostMetrics
+metered_with h (Ok x) t = metered 0 x t
+metered_with h (Err k) t = metrics_refused h (number_of k)
 
-abbrev pub metered_by : HostSession → MetricsAnswered → HostMetrics
+abbrev pub metered_by : HostSession → Answered PerformanceMetrics → HostMetrics
 metered_by h r = metered_with h r.answer (host_of r.session)

@@ -3,16 +3,13 @@ use Rattle.std.specs.Prelude.{ℕ, true, ◌&&◌, List, length, Float}
 use Rattle.counts.specs.declared.SongFrame.{SongFrame}
 use Rattle.counts.specs.declared.Handle.{Handle}
 use Rattle.stage.specs.declared.Settings.{Settings}
-use Rattle.clips.specs.declared.LoadAnswered.{LoadAnswered}
+use Rattle.session.specs.declared.Answered.{Answered}
 use Rattle.clips.specs.Open.{open_of}
 use Rattle.clips.specs.Load.{load_of}
 use Rattle.clips.specs.Retire.{retire_of}
-use Rattle.submission.specs.declared.SubmitAnswered.{SubmitAnswered}
-use Rattle.submission.specs.declared.ReplayAnswered.{ReplayAnswered}
 use Rattle.submission.specs.Submit.{submit_of}
 use Rattle.submission.specs.Transition.{transition_of}
 use Rattle.submission.specs.Replay.{replay_of}
-use Rattle.block.specs.declared.BlockAnswered.{BlockAnswered}
 use Rattle.block.specs.Block.{block_of}
 use Rattle.ring.specs.declared.SampleRing.{SampleRing}
 use Rattle.ring.specs.declared.Drained.{Drained}
@@ -22,7 +19,6 @@ use Rattle.tourfile.specs.Writer.{records_of, write_of, write_into}
 use Rattle.remains.specs.Salvage.{salvage_of, salvage_out, salvage_list}
 use Rattle.pump.specs.declared.Pumped.{Pumped}
 use Rattle.pump.specs.Pump.{pump_of}
-use Rattle.control.specs.declared.StopAnswered.{StopAnswered}
 use Rattle.control.specs.Capture.{start_capture_of, stop_capture_of}
 use Rattle.control.specs.Snapshot as control
 use Rattle.control.specs.Metrics.{metrics_of}
@@ -45,17 +41,18 @@ use Rattle.host.specs.declared.HostMetrics.{HostMetrics}
 use Rattle.host.specs.Kept.{is_kind, kind_of, session_of}
 use Rattle.host.specs.Arguments.{is_submission, submission_of, is_at, at_of, is_snapshot, snapshot_of}
 use Rattle.host.specs.Answers.{weigh_host, unless, refused, answered_by, load_refused, loaded_by, opened_by, submit_refused, submitted_by, block_refused, blocked_by, pump_refused, pumped_by, drained_by, toured_by, salvaged_by, replay_refused, replayed_by, stop_refused, stopped_by, snapshot_refused, snapped_by, metrics_refused, metered_by}
+use Rattle.submission.specs.declared.Report.{Report}
 
 -- answer and session; pool
 unfoldable pub open_host : Settings → List ℕ → List ℕ → List Float → List Float → ℕ → SongFrame → HostLoaded × List Float
 open_host x q c pool samples rate extent =
-    let z : LoadAnswered × List Float = open_of x q c pool samples rate extent in
+    let z : Answered Handle × List Float = open_of x q c pool samples rate extent in
     (opened_by z.0, z.1)
 
 -- answer and session; pool
 unfoldable pub load_host : HostSession → List ℕ → List ℕ → List Float → List Float → ℕ → SongFrame → ℕ → HostLoaded × List Float
 load_host h q c pool samples kind extent rate =
-    let z : LoadAnswered × List Float = load_of (session_of h) q c pool samples (kind_of kind extent) rate in
+    let z : Answered Handle × List Float = load_of (session_of h) q c pool samples (kind_of kind extent) rate in
     unless (weigh_host h q c (is_kind kind)) (λ n. (load_refused h n, pool)) (loaded_by h z.0, z.1)
 
 unfoldable pub retire_host : HostSession → List ℕ → List ℕ → Handle → HostAnswered
@@ -64,25 +61,25 @@ retire_host h q c x = unless (weigh_host h q c true) (refused h) (answered_by h 
 -- answer and session; queue; capture
 unfoldable pub submit_host : HostSession → List ℕ → List ℕ → HostCommand → HostAt → HostSubmitted × List ℕ × List ℕ
 submit_host h q c x at =
-    let z : SubmitAnswered × List ℕ × List ℕ = submit_of (session_of h) q c (submission_of x) (at_of at) in
+    let z : Answered ℕ × List ℕ × List ℕ = submit_of (session_of h) q c (submission_of x) (at_of at) in
     unless (weigh_host h q c (is_submission x && is_at at)) (λ n. (submit_refused h n, q, c)) (submitted_by h z.0, z.1, z.2)
 
 -- answer and session; queue; capture
 unfoldable pub transition_host : HostSession → List ℕ → List ℕ → SongFrame → HostAt → HostSubmitted × List ℕ × List ℕ
 transition_host h q c f at =
-    let z : SubmitAnswered × List ℕ × List ℕ = transition_of (session_of h) q c f (at_of at) in
+    let z : Answered ℕ × List ℕ × List ℕ = transition_of (session_of h) q c f (at_of at) in
     unless (weigh_host h q c (is_at at)) (λ n. (submit_refused h n, q, c)) (submitted_by h z.0, z.1, z.2)
 
 -- answer and session; queue
 unfoldable pub replay_host : HostSession → List ℕ → List ℕ → List ℕ → HostReplayed × List ℕ
 replay_host h q c list =
-    let z : ReplayAnswered × List ℕ = replay_of (session_of h) q c list in
+    let z : Answered Report × List ℕ = replay_of (session_of h) q c list in
     unless (weigh_host h q c true) (λ n. (replay_refused h n, q)) (replayed_by h z.0, z.1)
 
 -- answer and session; output
 unfoldable pub block_host : HostSession → List ℕ → List ℕ → List Float → List Float → HostBlocked × List Float
 block_host h q c pool out =
-    let z : BlockAnswered × List Float = block_of (session_of h) q c pool out in
+    let z : Answered ℕ × List Float = block_of (session_of h) q c pool out in
     unless (weigh_host h q c true) (λ n. (block_refused h n, out)) (blocked_by h z.0, z.1)
 
 -- answer, session and ring; store
@@ -115,7 +112,7 @@ start_capture_host h q c = unless (weigh_host h q c true) (refused h) (answered_
 -- answer and session; list
 unfoldable pub stop_capture_host : HostSession → List ℕ → List ℕ → List ℕ → HostStopped × List ℕ
 stop_capture_host h q c list =
-    let z : StopAnswered × List ℕ = stop_capture_of (session_of h) q c list in
+    let z : Answered ℕ × List ℕ = stop_capture_of (session_of h) q c list in
     unless (weigh_host h q c true) (λ n. (stop_refused h n, list)) (stopped_by h z.0, z.1)
 
 unfoldable pub snapshot_host : HostSession → List ℕ → List ℕ → HostSnapped

@@ -9,21 +9,16 @@ ghost use Rattle.host.specs.Answers.{turned, weigh_host, refused, answered_by, l
 ghost use Rattle.host.specs.Calls.{open_host, load_host, retire_host, submit_host, transition_host, replay_host, block_host, pump_host, drain_host, read_tour_host, write_tour_host, salvage_host, start_capture_host, stop_capture_host, snapshot_host, apply_host, metrics_host};
 
 use bank::{Bank, Clip, Kind};
-use block::BlockAnswer;
-use clips::{LoadAnswer, LoadAnswered};
-use control::{
-    MetricsAnswer, MetricsAnswered, PerformanceMetrics, PerformanceSnapshot, SnapshotAnswer,
-    SnapshotAnswered, StopAnswer, StopAnswered,
-};
+use control::{PerformanceMetrics, PerformanceSnapshot};
 use counts::{ClockFrame, Handle, SongFrame};
 use oneshot::Voices;
-use pump::{PumpAnswer, Pumped};
+use pump::Pumped;
 use ramp::Ramp;
 use remains::SalvageAnswer;
-use ring::{DrainAnswer, Drained, SampleRing};
-use session::{Answer, Answered, Desk, Session};
+use ring::{Drained, SampleRing};
+use session::{Answered, Desk, Session};
 use stage::{Counters, Fade, Playhead, Settings, Sound, Stage, Tail};
-use submission::{ReplayAnswer, ReplayAnswered, Report, SubmitAnswer, SubmitAnswered};
+use submission::Report;
 use timeline::Submission;
 use tourfile::TourAnswer;
 use transport::{At, LoopRange, Transport, TransportState};
@@ -710,17 +705,17 @@ fn refused(number: u32, h: HostSession) -> HostAnswered
     }
 }
 
-fn answered(h: HostSession, r: Answered) -> HostAnswered
+fn answered(h: HostSession, r: Answered<()>) -> HostAnswered
     ensures { result ≡ answered_by h r }
 {
     let answer = r.answer;
     let s = r.session;
     match answer {
-        Answer::Done => HostAnswered {
+        Ok(()) => HostAnswered {
             refusal: 0,
             session: host_of(s),
         },
-        Answer::Refused(k) => refused(k.number(), h),
+        Err(k) => refused(k.number(), h),
     }
 }
 
@@ -734,23 +729,23 @@ fn load_refused(number: u32, h: HostSession) -> HostLoaded
     }
 }
 
-fn loaded(h: HostSession, r: LoadAnswered) -> HostLoaded
+fn loaded(h: HostSession, r: Answered<Handle>) -> HostLoaded
     ensures { result ≡ loaded_by h r }
 {
     let answer = r.answer;
     let s = r.session;
     match answer {
-        LoadAnswer::Loaded(handle) => HostLoaded {
+        Ok(handle) => HostLoaded {
             refusal: 0,
             handle,
             session: host_of(s),
         },
-        LoadAnswer::Refused(k) => load_refused(k.number(), h),
+        Err(k) => load_refused(k.number(), h),
     }
 }
 
 /// A refused opening has no session to hand back but the one that every call refuses.
-fn opened(r: LoadAnswered) -> HostLoaded
+fn opened(r: Answered<Handle>) -> HostLoaded
     ensures { result ≡ opened_by r }
 {
     let s = r.session;
@@ -767,18 +762,18 @@ fn submit_refused(number: u32, h: HostSession) -> HostSubmitted
     }
 }
 
-fn submitted(h: HostSession, r: SubmitAnswered) -> HostSubmitted
+fn submitted(h: HostSession, r: Answered<u64>) -> HostSubmitted
     ensures { result ≡ submitted_by h r }
 {
     let answer = r.answer;
     let s = r.session;
     match answer {
-        SubmitAnswer::Queued(number) => HostSubmitted {
+        Ok(number) => HostSubmitted {
             refusal: 0,
             number,
             session: host_of(s),
         },
-        SubmitAnswer::Refused(k) => submit_refused(k.number(), h),
+        Err(k) => submit_refused(k.number(), h),
     }
 }
 
@@ -811,14 +806,14 @@ fn pumped(h: HostSession, x: Pumped) -> HostPumped
     let r = x.ring;
     let s = x.session;
     match answer {
-        PumpAnswer::Pumped(frames, passes) => HostPumped {
+        Ok(made) => HostPumped {
             refusal: 0,
-            frames,
-            passes,
+            frames: made.frames,
+            passes: made.passes,
             ring: r,
             session: host_of(s),
         },
-        PumpAnswer::Refused(k) => pump_refused(k.number(), h, r),
+        Err(k) => pump_refused(k.number(), h, r),
     }
 }
 
@@ -828,12 +823,12 @@ fn drained(x: Drained) -> HostDrained
     let answer = x.answer;
     let r = x.ring;
     match answer {
-        DrainAnswer::Drained(frames) => HostDrained {
+        Ok(frames) => HostDrained {
             refusal: 0,
             frames,
             ring: r,
         },
-        DrainAnswer::Refused(k) => HostDrained {
+        Err(k) => HostDrained {
             refusal: k.number(),
             frames: 0,
             ring: r,
@@ -891,18 +886,18 @@ fn replay_refused(number: u32, h: HostSession) -> HostReplayed
     }
 }
 
-fn replayed(h: HostSession, r: ReplayAnswered) -> HostReplayed
+fn replayed(h: HostSession, r: Answered<Report>) -> HostReplayed
     ensures { result ≡ replayed_by h r }
 {
     let answer = r.answer;
     let s = r.session;
     match answer {
-        ReplayAnswer::Replayed(report) => HostReplayed {
+        Ok(report) => HostReplayed {
             refusal: 0,
             report,
             session: host_of(s),
         },
-        ReplayAnswer::Refused(k) => replay_refused(k.number(), h),
+        Err(k) => replay_refused(k.number(), h),
     }
 }
 
@@ -916,18 +911,18 @@ fn stop_refused(number: u32, h: HostSession) -> HostStopped
     }
 }
 
-fn stopped(h: HostSession, r: StopAnswered) -> HostStopped
+fn stopped(h: HostSession, r: Answered<usize>) -> HostStopped
     ensures { result ≡ stopped_by h r }
 {
     let answer = r.answer;
     let s = r.session;
     match answer {
-        StopAnswer::Copied(copied) => HostStopped {
+        Ok(copied) => HostStopped {
             refusal: 0,
             copied,
             session: host_of(s),
         },
-        StopAnswer::Refused(k) => stop_refused(k.number(), h),
+        Err(k) => stop_refused(k.number(), h),
     }
 }
 
@@ -953,18 +948,18 @@ fn snapshot_refused(number: u32, h: HostSession) -> HostSnapped
     }
 }
 
-fn snapped(h: HostSession, r: SnapshotAnswered) -> HostSnapped
+fn snapped(h: HostSession, r: Answered<PerformanceSnapshot>) -> HostSnapped
     ensures { result ≡ snapped_by h r }
 {
     let answer = r.answer;
     let s = r.session;
     match answer {
-        SnapshotAnswer::Taken(x) => HostSnapped {
+        Ok(x) => HostSnapped {
             refusal: 0,
             snapshot: snapshot_numbers(x),
             session: host_of(s),
         },
-        SnapshotAnswer::Refused(k) => snapshot_refused(k.number(), h),
+        Err(k) => snapshot_refused(k.number(), h),
     }
 }
 
@@ -992,18 +987,18 @@ fn metrics_refused(number: u32, h: HostSession) -> HostMetrics
     }
 }
 
-fn metered(h: HostSession, r: MetricsAnswered) -> HostMetrics
+fn metered(h: HostSession, r: Answered<PerformanceMetrics>) -> HostMetrics
     ensures { result ≡ metered_by h r }
 {
     let answer = r.answer;
     let s = r.session;
     match answer {
-        MetricsAnswer::Read(metrics) => HostMetrics {
+        Ok(metrics) => HostMetrics {
             refusal: 0,
             metrics,
             session: host_of(s),
         },
-        MetricsAnswer::Refused(k) => metrics_refused(k.number(), h),
+        Err(k) => metrics_refused(k.number(), h),
     }
 }
 
@@ -1170,7 +1165,7 @@ pub fn threshreed_block(
     let answer = made.answer;
     let next = made.stage;
     match answer {
-        BlockAnswer::Done(passes) => HostBlocked {
+        Ok(passes) => HostBlocked {
             refusal: 0,
             passes,
             session: kept(
@@ -1183,7 +1178,7 @@ pub fn threshreed_block(
                 desk,
             ),
         },
-        BlockAnswer::Refused(k) => block_refused(k.number(), h),
+        Err(k) => block_refused(k.number(), h),
     }
 }
 

@@ -26,7 +26,6 @@ use Rattle.session.proofs.Parts.{Parts, parts, whole}
 use Rattle.block.specs.Block.{ran_of, block_done, block_of, blocks_of, joined}
 use Rattle.block.proofs.Weigh.{Accepted, block_done_law}
 use Rattle.block.proofs.Cut.{frames_joined, joined_even, front_accepted, rest_accepted, rest_places, block_cuts}
-use Rattle.submission.specs.declared.ReplayAnswer.{ReplayAnswer}
 use Rattle.submission.specs.Replay.{Replaying, replayed}
 use Rattle.submission.proofs.Kept.{replayed_well}
 use Rattle.submission.proofs.Leaves.{heart, replayed_leaves}
@@ -39,6 +38,7 @@ use Rattle.leaps.specs.Equal.{executed_by, Full, Comes, DryRun}
 use Rattle.leaps.proofs.Laps.{lapped_at, lapped_cut}
 use Rattle.leaps.proofs.Part.{Lasts, block_dried}
 use Rattle.leaps.proofs.Replay.{Both, replayed_both}
+use Rattle.std.specs.Prelude.{Ok}
 
 module _ (b k : Bank) (clips : SameClips b k) (pool : List Float) where
   -- a song that is held in one has its length in both
@@ -109,7 +109,7 @@ dry_run_law s q c t p d pool list outs w f l e clock =
     let o : Both 0 z y = replayed_both s q c t p d (parts s q c w) (parts t p d f.formed) list n 0 (subst (λ (j : ℕ). Alike j s q t p) (omega arith) l) in
     let stage : y.session.stage ≡ t.stage = ap (λ x. x.2) (replayed_leaves t p list n) in
     record {
-      report = rw (replay_done_law s q c list w, replay_done_law t p d list f.formed) (ap ReplayAnswer.Replayed o.report);
+      report = rw (replay_done_law s q c list w, replay_done_law t p d list f.formed) (ap Ok o.report);
       comes =
           rw (replay_done_law s q c list w, replay_done_law t p d list f.formed)
           (alike_comes 0 z.session z.queue y.session y.queue d pool outs o.alike (full_replayed t p d pool list n f) e (rw stage clock));

@@ -26,7 +26,6 @@ use Rattle.bank.specs.declared.Stands.{Stands}
 use Rattle.bank.specs.Slots.{live, stands_for, stands_in}
 use Rattle.session.specs.declared.Session.{Session}
 use Rattle.session.specs.declared.Refusal.{Refusal}
-use Rattle.session.specs.declared.Weighed.{Weighed}
 use Rattle.session.specs.Session.{turned_away}
 use Rattle.session.proofs.Parts.{Parts}
 use Rattle.session.proofs.Refuse.{unless_fine, unless_refused}
@@ -38,6 +37,7 @@ use Rattle.submission.specs.Replay.{Replaying, weigh_replayed, taken_by, skipped
 use Rattle.submission.proofs.Left.{turned_away_law}
 use Rattle.submission.proofs.Kept.{replayed_well}
 use Rattle.leaps.specs.Same.{SameClips, Alike}
+use Rattle.std.specs.Prelude.{Result, Ok, Err}
 
 -- what a handle stands for is the same over the same clips
 same_stands : (b k : Bank) → SameClips b k → (h : Handle) → stands_for b h ≡ stands_for k h
@@ -137,11 +137,11 @@ module _ (n : ℕ) (z y : Replaying) (o : Both (suc n) z y) (c d : List ℕ) (a 
   unfolding replay_row
   row_both = go (weigh_replayed z.session z.queue x) refl
     where
-      go : (w : Weighed) → weigh_replayed z.session z.queue x ≡ w → Both n (replay_row z x) (replay_row y x)
-      go Weighed.Fine e =
+      go : (w : Result (Unit {0}) Refusal) → weigh_replayed z.session z.queue x ≡ w → Both n (replay_row z x) (replay_row y x)
+      go (Ok tt) e =
           rw (unless_fine _ (skipped_by z) (taken_by z (record_of x)) e, unless_fine _ (skipped_by y) (taken_by y (record_of x)) (sym same_weighed ∙ e))
           (record { alike = take_alike n z.session z.queue y.session y.queue o.alike c d a b z.report y.report x; report = rw o.report })
-      go (Weighed.Refused k) e =
+      go (Err k) e =
           rw (unless_refused _ (skipped_by z) (taken_by z (record_of x)) k e, unless_refused _ (skipped_by y) (taken_by y (record_of x)) k (sym same_weighed ∙ e))
           (record { alike = skip_alike n z.session z.queue y.session y.queue o.alike k; report = skip_report k })
 

@@ -1,12 +1,11 @@
 //! Block numbers, over sessions laid by hand.
 use crate::told::{samples, stands};
 use bank::{Bank, Clip, Kind};
-use block::BlockAnswered;
 use counts::{ClockFrame, Handle, SamplePlace, SongFrame};
 use oneshot::{Voice, Voices};
 use print::{number, text};
 use ramp::Ramp;
-use session::{Desk, Session};
+use session::{Answered, Desk, Session};
 use stage::{AS_TONO, Counters, Fade, Playhead, Settings, Sound, Stage, Tail};
 use std::io;
 use timeline::Row;
@@ -169,7 +168,7 @@ const GAIN: u64 = 8;
 const SWAP: u64 = 9;
 
 /// A block into a part of the output, with no capture.
-fn run(s: Session, queue: &[u64; 20], pool: &[f32], out: &mut [f32]) -> BlockAnswered {
+fn run(s: Session, queue: &[u64; 20], pool: &[f32], out: &mut [f32]) -> Answered<u64> {
     let records: &[u64] = queue;
     block::block(s, records, &records[..0], pool, out)
 }

@@ -2,10 +2,9 @@
 use crate::refusals::{SMALL, handle_of, looped, opened, queue_one};
 use crate::told::range;
 use bank::Kind;
-use clips::LoadAnswered;
-use counts::SongFrame;
+use counts::{Handle, SongFrame};
 use print::text;
-use session::Session;
+use session::{Answered, Session};
 use std::io;
 use timeline::Submission;
 use transport::At;
@@ -36,7 +35,7 @@ fn load_longer(
     queue: &[u64; 10],
     capture: &[u64; 5],
     pool: &mut [f32; 16],
-) -> LoadAnswered {
+) -> Answered<Handle> {
     let samples = [0.125; 8];
     let lasts = Kind::Song(SongFrame(4));
     clips::load(s, queue, capture, pool, &samples, lasts, 48000)

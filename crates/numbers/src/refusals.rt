@@ -1,14 +1,11 @@
 //! Each refusal number at a call: 'Each gives its number alone; all lent stores and the session stay, save 15.'
 use bank::Kind;
-use block::BlockAnswered;
-use clips::{LoadAnswer, LoadAnswered};
 use control::PerformanceSnapshot;
 use counts::{ClockFrame, Handle, SongFrame};
 use print::text;
-use session::{Answered, Session};
+use session::{Answered, Refusal, Session};
 use stage::{AS_TONO, HOUSE, Settings};
 use std::io;
-use submission::SubmitAnswered;
 use timeline::{Row, Submission};
 use transport::{At, LoopRange, TransportState};
 
@@ -38,10 +35,10 @@ pub fn opened(settings: Settings, queue: &[u64], capture: &[u64], pool: &mut [f3
 }
 
 /// The handle that a load gave.
-pub fn handle_of(a: LoadAnswer) -> Handle {
+pub fn handle_of(a: Result<Handle, Refusal>) -> Handle {
     match a {
-        LoadAnswer::Loaded(h) => h,
-        LoadAnswer::Refused(_) => Handle { slot: 0, serial: 0 },
+        Ok(h) => h,
+        Err(_) => Handle { slot: 0, serial: 0 },
     }
 }
 
@@ -63,7 +60,7 @@ fn open(rt: &impl Print, settings: Settings, queue: &[u64], samples: &[f32]) -> 
 fn load_told(
     rt: &impl Print,
     s: Session,
-    r: LoadAnswered,
+    r: Answered<Handle>,
     pool: &[f32],
     was: &[f32],
 ) -> io::Result<()> {
@@ -106,7 +103,7 @@ fn load_forty(
 }
 
 /// A call that is lent no store to write: its answer, and whether the session is as it was.
-fn answer_told(rt: &impl Print, s: Session, r: Answered) -> io::Result<()> {
+fn answer_told(rt: &impl Print, s: Session, r: Answered<()>) -> io::Result<()> {
     let a = r.answer;
     let after = r.session;
     print::answer(rt, a)?;
@@ -117,7 +114,7 @@ fn answer_told(rt: &impl Print, s: Session, r: Answered) -> io::Result<()> {
 fn block_told(
     rt: &impl Print,
     s: Session,
-    r: BlockAnswered,
+    r: Answered<u64>,
     out: &[f32],
     was: &[f32],
 ) -> io::Result<()> {
@@ -134,7 +131,7 @@ fn block_told(
 fn submit_told(
     rt: &impl Print,
     s: Session,
-    r: SubmitAnswered,
+    r: Answered<u64>,
     queue: &[u64],
     queue_was: &[u64],
     capture: &[u64],
@@ -183,7 +180,7 @@ fn submit_seventeen(
 pub fn full_told(
     rt: &impl Print,
     s: Session,
-    r: SubmitAnswered,
+    r: Answered<u64>,
     queue: &[u64],
     queue_was: &[u64],
     capture: &[u64],
@@ -389,7 +386,7 @@ fn load_slow(
     queue: &[u64; 10],
     capture: &[u64; 5],
     pool: &mut [f32; 16],
-) -> LoadAnswered {
+) -> Answered<Handle> {
     let slow = [0.25, 0.25];
     let lasts = Kind::Song(SongFrame(1));
     clips::load(s, queue, capture, pool, &slow, lasts, 44100)

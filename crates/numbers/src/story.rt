@@ -2,10 +2,9 @@
 use crate::refusals::{handle_of, opened};
 use crate::told::samples;
 use bank::Kind;
-use clips::{LoadAnswer, LoadAnswered};
 use counts::{ClockFrame, Handle, SongFrame};
 use print::text;
-use session::Session;
+use session::{Answered, Refusal, Session};
 use stage::{AS_TONO, Settings};
 use std::io;
 use timeline::Submission;
@@ -19,7 +18,7 @@ fn load(
     capture: &[u64; 5],
     pool: &mut [f32; 16],
     samples: &[f32; 6],
-) -> io::Result<LoadAnswered> {
+) -> io::Result<Answered<Handle>> {
     let lasts = Kind::Song(SongFrame(3));
     let r = clips::load(s, queue, capture, pool, samples, lasts, 48000);
     let a = r.answer;
@@ -30,7 +29,7 @@ fn load(
 }
 
 /// Where a loaded clip lies.
-fn lies(rt: &impl Print, s: Session, a: LoadAnswer) -> io::Result<()> {
+fn lies(rt: &impl Print, s: Session, a: Result<Handle, Refusal>) -> io::Result<()> {
     let h = handle_of(a);
     if h.slot < 32 {
         let b = s.bank;

@@ -1,7 +1,6 @@
 //! What the numbers are told by: samples, a block's answer, where a session stands, and whether all is as it was.
-use block::{BlockAnswer, BlockAnswered};
 use print::{number, sample, text};
-use session::Session;
+use session::{Answered, Refusal, Session};
 use std::io;
 use transport::LoopRange;
 
@@ -19,13 +18,13 @@ pub fn samples(rt: &impl Print, out: &[f32], from: usize, to: usize) -> io::Resu
 }
 
 /// A block's answer: the passes made in it.
-pub fn block_answer(rt: &impl Print, a: BlockAnswer) -> io::Result<()> {
+pub fn block_answer(rt: &impl Print, a: Result<u64, Refusal>) -> io::Result<()> {
     match a {
-        BlockAnswer::Done(n) => {
+        Ok(n) => {
             text(rt, b"done, passes ")?;
             number(rt, n)
         }
-        BlockAnswer::Refused(k) => print::refused(rt, k),
+        Err(k) => print::refused(rt, k),
     }
 }
 
@@ -63,7 +62,7 @@ pub fn range(rt: &impl Print, l: LoopRange) -> io::Result<()> {
 }
 
 /// What a block answered, and where the session then stands.
-pub fn stands(rt: &impl Print, r: BlockAnswered) -> io::Result<()> {
+pub fn stands(rt: &impl Print, r: Answered<u64>) -> io::Result<()> {
     let a = r.answer;
     block_answer(rt, a)?;
     let s = r.session;

@@ -1,12 +1,11 @@
 //! Writes answers and samples, and gives the bits of a float, for the programs. What cannot be written is an error.
 #![tactic(auto)]
 
-use clips::LoadAnswer;
-use control::{MetricsAnswer, SnapshotAnswer, StopAnswer};
+use control::{PerformanceMetrics, PerformanceSnapshot};
 use counts::Handle;
-use session::{Answer, Refusal};
+use session::Refusal;
 use std::io;
-use submission::{ReplayAnswer, SubmitAnswer};
+use submission::Report;
 use transport::TransportState;
 
 pub fn text(rt: &impl Print, s: &[u8]) -> io::Result<()> {
@@ -96,33 +95,33 @@ pub fn handle(rt: &impl Print, h: Handle) -> io::Result<()> {
     number(rt, h.serial as u64)
 }
 
-pub fn answer(rt: &impl Print, a: Answer) -> io::Result<()> {
+pub fn answer(rt: &impl Print, a: Result<(), Refusal>) -> io::Result<()> {
     match a {
-        Answer::Done => text(rt, b"done"),
-        Answer::Refused(k) => refused(rt, k),
+        Ok(()) => text(rt, b"done"),
+        Err(k) => refused(rt, k),
     }
 }
 
-pub fn load_answer(rt: &impl Print, a: LoadAnswer) -> io::Result<()> {
+pub fn load_answer(rt: &impl Print, a: Result<Handle, Refusal>) -> io::Result<()> {
     match a {
-        LoadAnswer::Loaded(h) => handle(rt, h),
-        LoadAnswer::Refused(k) => refused(rt, k),
+        Ok(h) => handle(rt, h),
+        Err(k) => refused(rt, k),
     }
 }
 
-pub fn submit_answer(rt: &impl Print, a: SubmitAnswer) -> io::Result<()> {
+pub fn submit_answer(rt: &impl Print, a: Result<u64, Refusal>) -> io::Result<()> {
     match a {
-        SubmitAnswer::Queued(n) => {
+        Ok(n) => {
             text(rt, b"number ")?;
             number(rt, n)
         }
-        SubmitAnswer::Refused(k) => refused(rt, k),
+        Err(k) => refused(rt, k),
     }
 }
 
-pub fn replay_answer(rt: &impl Print, a: ReplayAnswer) -> io::Result<()> {
+pub fn replay_answer(rt: &impl Print, a: Result<Report, Refusal>) -> io::Result<()> {
     match a {
-        ReplayAnswer::Replayed(r) => {
+        Ok(r) => {
             text(rt, b"taken ")?;
             number(rt, r.taken as u64)?;
             text(rt, b", queue-full ")?;
@@ -130,23 +129,23 @@ pub fn replay_answer(rt: &impl Print, a: ReplayAnswer) -> io::Result<()> {
             text(rt, b", otherwise skipped ")?;
             number(rt, r.skipped as u64)
         }
-        ReplayAnswer::Refused(k) => refused(rt, k),
+        Err(k) => refused(rt, k),
     }
 }
 
-pub fn stop_answer(rt: &impl Print, a: StopAnswer) -> io::Result<()> {
+pub fn stop_answer(rt: &impl Print, a: Result<usize, Refusal>) -> io::Result<()> {
     match a {
-        StopAnswer::Copied(n) => {
+        Ok(n) => {
             text(rt, b"copied ")?;
             number(rt, n as u64)
         }
-        StopAnswer::Refused(k) => refused(rt, k),
+        Err(k) => refused(rt, k),
     }
 }
 
-pub fn snapshot_answer(rt: &impl Print, a: SnapshotAnswer) -> io::Result<()> {
+pub fn snapshot_answer(rt: &impl Print, a: Result<PerformanceSnapshot, Refusal>) -> io::Result<()> {
     match a {
-        SnapshotAnswer::Taken(x) => {
+        Ok(x) => {
             let position = x.position;
             let at = x.state;
             text(rt, b"position ")?;
@@ -156,13 +155,13 @@ pub fn snapshot_answer(rt: &impl Print, a: SnapshotAnswer) -> io::Result<()> {
             text(rt, b", gain ")?;
             sample(rt, x.gain)
         }
-        SnapshotAnswer::Refused(k) => refused(rt, k),
+        Err(k) => refused(rt, k),
     }
 }
 
-pub fn metrics_answer(rt: &impl Print, a: MetricsAnswer) -> io::Result<()> {
+pub fn metrics_answer(rt: &impl Print, a: Result<PerformanceMetrics, Refusal>) -> io::Result<()> {
     match a {
-        MetricsAnswer::Read(m) => {
+        Ok(m) => {
             text(rt, b"rendered ")?;
             number(rt, m.rendered)?;
             text(rt, b", executed ")?;
@@ -176,6 +175,6 @@ pub fn metrics_answer(rt: &impl Print, a: MetricsAnswer) -> io::Result<()> {
             text(rt, b", fired ")?;
             number(rt, m.fired)
         }
-        MetricsAnswer::Refused(k) => refused(rt, k),
+        Err(k) => refused(rt, k),
     }
 }

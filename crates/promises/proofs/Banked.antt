@@ -23,9 +23,7 @@ use Rattle.stage.specs.declared.Stage.{Stage}
 use Rattle.session.specs.declared.Session.{Session}
 use Rattle.session.specs.declared.Answered.{Answered}
 use Rattle.session.proofs.Refuse.{unless_both}
-use Rattle.block.specs.declared.BlockAnswered.{BlockAnswered}
 use Rattle.block.specs.Block.{block_of}
-use Rattle.clips.specs.declared.LoadAnswered.{LoadAnswered}
 use Rattle.clips.specs.Load.{load_of}
 use Rattle.clips.specs.Retire.{retire_of}
 use Rattle.clips.proofs.Loaded.{load_placed}
@@ -53,17 +51,17 @@ heart_none x s q c e = none (ap (λ (r : Settings × Bank × Stage). r.1) e) ref
 
 block_changes : (out : List Float) (x : State) → Changes x (after (block out) x)
 unfolding block_of
-block_changes out x = unless_both {A = BlockAnswered × List Float} _ _ _ (λ a. Changes x (with_session x a.0.session)) (λ k. none refl refl) (λ fine. none refl refl)
+block_changes out x = unless_both {A = Answered ℕ × List Float} _ _ _ (λ a. Changes x (with_session x a.0.session)) (λ k. none refl refl) (λ fine. none refl refl)
 
 -- every call
 pub changes : (k : Call) (x : State) → Good x → Changes x (after k x)
 unfolding load_of retire_of block_of apply_of
 changes (load samples kind rate) x g =
-    unless_both {A = LoadAnswered × List Float} _ _ _ (λ a. Changes x (state a.0.session x.queue x.capture a.1)) (λ k. none refl refl)
+    unless_both {A = Answered Handle × List Float} _ _ _ (λ a. Changes x (state a.0.session x.queue x.capture a.1)) (λ k. none refl refl)
     (λ fine. places _ _ samples (load_placed x.session x.queue x.capture x.pool samples kind rate fine (types x g))
     (load.accepted x.session x.queue x.capture x.pool samples kind rate fine).even refl refl)
 changes (retire h) x g =
-    unless_both {A = Answered} _ _ _ (λ a. Changes x (with_session x a.session)) (λ k. none refl refl)
+    unless_both {A = Answered (Unit {0})} _ _ _ (λ a. Changes x (with_session x a.session)) (λ k. none refl refl)
     (λ fine. retires h (retire.accepted x.session x.queue x.capture h fine).alive refl refl)
 changes (submit y at) x g = heart_none x _ _ _ (submit_leaves x.session x.queue x.capture y at)
 changes (transition f at) x g = heart_none x _ _ _ (transition_leaves x.session x.queue x.capture f at)
@@ -73,7 +71,7 @@ changes start_capture x g = heart_none x _ _ _ (start_leaves x.session x.queue x
 changes (stop_capture list) x g = heart_none x _ _ _ (stop_leaves x.session x.queue x.capture list)
 changes (replay list) x g = heart_none x _ _ _ (replay_leaves x.session x.queue x.capture list)
 changes snapshot x g = none (ap (λ (s : Session). s.bank) (snapshot_leaves x.session x.queue x.capture)) refl
-changes (apply y) x g = unless_both {A = Answered} _ _ _ (λ a. Changes x (with_session x a.session)) (λ k. none refl refl) (λ fine. none refl refl)
+changes (apply y) x g = unless_both {A = Answered (Unit {0})} _ _ _ (λ a. Changes x (with_session x a.session)) (λ k. none refl refl) (λ fine. none refl refl)
 changes metrics x g = none (ap (λ (s : Session). s.bank) (metrics_leave x.session x.queue x.capture)) refl
 
 -- ---- spent: given, and live no more

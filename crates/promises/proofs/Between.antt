@@ -12,16 +12,11 @@ use Rattle.bank.specs.declared.Bank.{Bank}
 use Rattle.bank.specs.Sample.{frames_of}
 use Rattle.bank.specs.Slots.{live, retired_from}
 use Rattle.bank.specs.Recording.{Recording, view_of}
-use Rattle.session.specs.declared.Weighed.{Weighed}
-use Rattle.session.specs.declared.Answer.{Answer}
 use Rattle.session.specs.declared.Answered.{Answered}
 use Rattle.session.specs.Session.{with_bank}
 use Rattle.session.specs.Answer.{says, answered}
 use Rattle.session.proofs.Refuse.{unless_both}
-use Rattle.block.specs.declared.BlockAnswered.{BlockAnswered}
-use Rattle.block.specs.Block.{says_block, block_answered, weigh_block, ran_of, block_of}
-use Rattle.clips.specs.declared.LoadAnswered.{LoadAnswered}
-use Rattle.clips.specs.Answer.{says_load}
+use Rattle.block.specs.Block.{weigh_block, ran_of, block_of}
 use Rattle.clips.specs.Load.{weigh_load, handle_for, load_of}
 use Rattle.clips.specs.Retire.{held_now, retire_of}
 use Rattle.clips.proofs.Held.{live_small, held_has, holder_live}
@@ -37,6 +32,7 @@ use Rattle.promises.proofs.Banked.{changes, view_stays}
 use Rattle.promises.proofs.Refused.{lent_back}
 use Rattle.promises.proofs.Retire.{loose_says}
 use Rattle.promises.proofs.Stale.{stale_for_good}
+use Rattle.std.specs.Prelude.{Ok}
 
 -- ---- a block over another bank and another pool, in which every live clip sounds the same
 
@@ -45,8 +41,8 @@ abbrev moved : State → Bank → List Float → State
 moved x b pool = state (with_bank x.session b) x.queue x.capture pool
 
 -- what a block gives, over another bank
-abbrev over : Bank → BlockAnswered × List Float → BlockAnswered × List Float
-over b o = (block_answered o.0.answer (with_bank o.0.session b), o.1)
+abbrev over : Bank → Answered ℕ × List Float → Answered ℕ × List Float
+over b o = (answered o.0.answer (with_bank o.0.session b), o.1)
 
 module _ (x : State) (b : Bank) (pool out : List Float) (g : Good x) (h : Good (moved x b pool))
     (same : (k : Handle) → Live k x → view_of x.pool x.session.bank k ≡ view_of pool b k) where
@@ -65,13 +61,13 @@ module _ (x : State) (b : Bank) (pool out : List Float) (g : Good x) (h : Good (
 -- ---- a call that changes bank and pool alone, and a block after it
 
 -- what a block gives
-abbrev made : List Float → State → BlockAnswered × List Float
+abbrev made : List Float → State → Answered ℕ × List Float
 made out x = block_of x.session x.queue x.capture x.pool out
 
 -- it leaves the bank
 bank_left : (out : List Float) (x : State) → (after (block out) x).session.bank ≡ x.session.bank
 unfolding block_of
-bank_left out x = unless_both {A = BlockAnswered × List Float} _ _ _ (λ o. o.0.session.bank ≡ x.session.bank) (λ k. refl) (λ fine. refl)
+bank_left out x = unless_both {A = Answered ℕ × List Float} _ _ _ (λ o. o.0.session.bank ≡ x.session.bank) (λ k. refl) (λ fine. refl)
 
 module _ (out : List Float) (x : State) (g : Good x) (k : Call) (given : Given k) (alone : after k x ≡ moved x (after k x).session.bank (after k x).pool) where
   -- the block gives what it gives without the call, over the bank that the call left,
@@ -82,16 +78,16 @@ module _ (out : List Float) (x : State) (g : Good x) (k : Call) (given : Given k
 
   -- so it says the same,
   played_after : block_says out (after k x) ≡ block_says out x
-  played_after = ap (λ (o : BlockAnswered × List Float). says_block o.0.answer) made_after
+  played_after = ap (λ (o : Answered ℕ × List Float). says o.0.answer) made_after
 
   -- its samples are the same,
   samples_after : out_of (after k x) out ≡ out_of x out
-  samples_after = ap (λ (o : BlockAnswered × List Float). o.1) made_after
+  samples_after = ap (λ (o : Answered ℕ × List Float). o.1) made_after
 
   -- and it leaves the same, over the bank and the pool that the call left
   left_after : after (block out) (after k x) ≡ moved (after (block out) x) (after k x).session.bank (after k x).pool
   left_after =
-      ap (λ (o : BlockAnswered × List Float). with_session (after k x) o.0.session) made_after
+      ap (λ (o : Answered ℕ × List Float). with_session (after k x) o.0.session) made_after
       ∙ ap (λ (y : State). with_session y (with_bank (after (block out) x).session (after k x).session.bank)) alone
 
 -- ---- a load
@@ -100,7 +96,7 @@ load_alone : (samples : List Float) (kind : Kind) (rate : ℕ) (x : State)
     → after (load samples kind rate) x ≡ moved x (after (load samples kind rate) x).session.bank (after (load samples kind rate) x).pool
 unfolding load_of
 load_alone samples kind rate x =
-    unless_both {A = LoadAnswered × List Float} _ _ _
+    unless_both {A = Answered Handle × List Float} _ _ _
     (λ o. state o.0.session x.queue x.capture o.1 ≡ moved x o.0.session.bank o.1) (λ k. refl) (λ fine. refl)
 
 module _ (samples : List Float) (kind : Kind) (rate : ℕ) (out : List Float) (x : State) (g : Good x) where
@@ -113,9 +109,9 @@ module _ (samples : List Float) (kind : Kind) (rate : ℕ) (out : List Float) (x
   weighs_alike = rw (g.formed, (keeps (block out) x tt g).formed, settings_stay (block out) x, bank_left out x)
 
   -- what it gives after the block, and before it
-  abbrev Alike : LoadAnswered × List Float → LoadAnswered × List Float → Type 0
+  abbrev Alike : Answered Handle × List Float → Answered Handle × List Float → Type 0
   Alike o p =
-      (says_load o.0.answer ≡ says_load p.0.answer)
+      (says o.0.answer ≡ says p.0.answer)
       × (state o.0.session x.queue x.capture o.1 ≡ moved come p.0.session.bank p.1)
 
   load_alike : Alike (load_of come.session x.queue x.capture x.pool samples kind rate) (load_of x.session x.queue x.capture x.pool samples kind rate)
@@ -140,10 +136,10 @@ load_between samples kind rate out x g =
 
 retire_alone : (h : Handle) (x : State) → after (retire h) x ≡ moved x (after (retire h) x).session.bank x.pool
 unfolding retire_of
-retire_alone h x = unless_both {A = Answered} _ _ _ (λ a. with_session x a.session ≡ moved x a.session.bank x.pool) (λ k. refl) (λ fine. refl)
+retire_alone h x = unless_both {A = Answered (Unit {0})} _ _ _ (λ a. with_session x a.session ≡ moved x a.session.bank x.pool) (λ k. refl) (λ fine. refl)
 
 module _ (h : Handle) (x : State) (accepts : refusal (retire h) x ≡ 0) where
-  done : retire_of x.session x.queue x.capture h ≡ answered Answer.Done (with_bank x.session (retired_from x.session.bank h))
+  done : retire_of x.session x.queue x.capture h ≡ answered (Ok tt) (with_bank x.session (retired_from x.session.bank h))
   done = retire_done x.session x.queue x.capture h (retire_weighs h x accepts)
 
   was_live : Live h x
@@ -196,7 +192,7 @@ retire_between h out x g accepts =
 -- a refused retirement leaves everything
 refused_stays : (h : Handle) (x : State) → refusal (retire h) x ≢ 0 → after (retire h) x ≡ x
 unfolding retire_of
-refused_stays h x = lent_back {A = Answered} _ _ _ (λ a. code (says a.answer)) (λ a. with_session x a.session) x refl (λ k. refl)
+refused_stays h x = lent_back {A = Answered (Unit {0})} _ _ _ (λ a. code (says a.answer)) (λ a. with_session x a.session) x refl (λ k. refl)
 
 -- so its clip is live after both, and stale if it is retired after the block
 pub retire_parts : RetireParts
@@ -211,8 +207,8 @@ unfolding load_of
 first_stands a b kind_a kind_b rate_a rate_b x g accepts =
     let y : State = after (load a kind_a rate_a) x in
     let good : Good y = keeps (load a kind_a rate_a) x tt g in
-    let fine : weigh_load x.session x.queue x.capture x.pool a kind_a rate_a ≡ Weighed.Fine =
-    zero_fine {A = LoadAnswered × List Float} _ _ _ (λ o. code (says_load o.0.answer)) (λ k. refl) accepts in
+    let fine : weigh_load x.session x.queue x.capture x.pool a kind_a rate_a ≡ (Ok tt) =
+    zero_fine {A = Answered Handle × List Float} _ _ _ (λ o. code (says o.0.answer)) (λ k. refl) accepts in
     let alive = load_live x.session x.queue x.capture x.pool a kind_a rate_a fine (types x g) in
     ap (λ (r : Recording). r.samples)
     (view_stays y (after (load b kind_b rate_b) y) good.pooled (handle_for x.session) alive (changes (load b kind_b rate_b) y good)

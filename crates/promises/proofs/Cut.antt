@@ -4,7 +4,7 @@ use mathlib.Core.List.{List, [], ◌∷◌, ◌++◌}
 use Prim.Native.Nat.{ℕ, ◌+◌}
 use lib.Ieee.{Float}
 use Rattle.session.specs.declared.Session.{Session}
-use Rattle.block.specs.declared.BlockAnswered.{BlockAnswered}
+use Rattle.session.specs.declared.Answered.{Answered}
 use Rattle.block.specs.Block.{reported, joined}
 use Rattle.block.proofs.Weigh.{Accepted}
 use Rattle.block.proofs.Cut.{front_accepted, rest_accepted, block_cut, block_cuts}
@@ -32,7 +32,7 @@ cut x (out ∷ outs) g e p =
     let r : InPieces outs y = cut y outs (keeps (block out) x tt g) (block_says_law y (joined outs) rest) p.1 in
     record {
       accepted = (block_says_law x out (front_accepted x.session x.queue x.capture x.pool out (joined outs) g.voices a p.0), r.accepted);
-      samples = ap (λ (l : List Float). out_of x out ++ l) r.samples ∙ sym (ap (λ (z : BlockAnswered × List Float). z.1) both);
-      passes = ap (λ (n : ℕ). report_of x out + n) r.passes ∙ sym (ap (λ (z : BlockAnswered × List Float). reported z.0.answer) both);
-      state = r.state ∙ sym (ap (λ (z : BlockAnswered × List Float). with_session x z.0.session) both);
+      samples = ap (λ (l : List Float). out_of x out ++ l) r.samples ∙ sym (ap (λ (z : Answered ℕ × List Float). z.1) both);
+      passes = ap (λ (n : ℕ). report_of x out + n) r.passes ∙ sym (ap (λ (z : Answered ℕ × List Float). reported z.0.answer) both);
+      state = r.state ∙ sym (ap (λ (z : Answered ℕ × List Float). with_session x z.0.session) both);
     }

@@ -23,7 +23,7 @@ use Rattle.stage.proofs.Clock.{clocked}
 use Rattle.session.specs.declared.Session.{Session}
 use Rattle.session.specs.WellFormed.{well_formed}
 use Rattle.session.proofs.Refuse.{unless_both}
-use Rattle.block.specs.declared.BlockAnswered.{BlockAnswered}
+use Rattle.session.specs.declared.Answered.{Answered}
 use Rattle.block.specs.Block.{weigh_block, ran_of, block_done, block_of, reported}
 use Rattle.block.proofs.Queue.{queue_ran}
 use Rattle.submission.specs.Submit.{submit_of}
@@ -86,7 +86,7 @@ module _ (a b : ℕ) where
         → let z : Session = (block_of s r d pool out).0.session in waiting z q ≡ map (exchanged a b) (waiting z r)
     unfolding block_of
     queue_exchanged out =
-        unless_both {A = BlockAnswered × List Float} _ _ _ (λ z. waiting z.0.session q ≡ map (exchanged a b) (waiting z.0.session r)) (λ k. e) (λ fine. left (frames_of out))
+        unless_both {A = Answered ℕ × List Float} _ _ _ (λ z. waiting z.0.session q ≡ map (exchanged a b) (waiting z.0.session r)) (λ k. e) (λ fine. left (frames_of out))
       where
         left : (n : ℕ) → queue q (length (ran_of s r pool n).at.queue) ≡ map (exchanged a b) (queue r (length (ran_of s r pool n).at.queue))
         left n = rw (ran_exchanged n, length-map) at (queue_ran s q pool n) ∙ ap (map (exchanged a b)) (sym (queue_ran s r pool n))
@@ -96,7 +96,7 @@ module _ (a b : ℕ) where
       → let z : Session = (block_of s r d pool out).0.session in recorded z c ≡ last_exchanged (map (exchanged a b) (recorded z d))
   unfolding block_of
   capture_exchanged s r c d pool e out =
-      unless_both {A = BlockAnswered × List Float} _ _ _ (λ z. recorded z.0.session c ≡ last_exchanged (map (exchanged a b) (recorded z.0.session d))) (λ k. e) (λ fine. e)
+      unless_both {A = Answered ℕ × List Float} _ _ _ (λ z. recorded z.0.session c ≡ last_exchanged (map (exchanged a b) (recorded z.0.session d))) (λ k. e) (λ fine. e)
 
   -- ---- later blocks
 
@@ -118,7 +118,7 @@ module _ (a b : ℕ) where
     step_exchanged : Exchanged a b (after (block out) x) (after (block out) y)
     step_exchanged =
         record {
-          session = ap (λ (z : BlockAnswered × List Float). z.0.session) step_same;
+          session = ap (λ (z : Answered ℕ × List Float). z.0.session) step_same;
           pool = e.pool;
           queue = rw step_same (queue_exchanged y.session x.queue y.queue x.capture y.capture y.pool waits out);
           capture = rw step_same (capture_exchanged y.session y.queue x.capture y.capture y.pool records out);
@@ -131,7 +131,7 @@ later_blocks a b x y f g e (out ∷ outs) =
     let r : SoundAlike a b outs (after (block out) x) (after (block out) y) =
     later_blocks a b (after (block out) x) (after (block out) y) (keeps (block out) x tt f) (keeps (block out) y tt g) (step_exchanged a b x y f g e out) outs in
     let s = step_same a b x y f g e out in
-    (ap₂ ◌++◌ (ap (λ (z : BlockAnswered × List Float). z.1) s) r.0, ap₂ ◌∷◌ (ap (λ (z : BlockAnswered × List Float). reported z.0.answer) s) r.1, r.2)
+    (ap₂ ◌++◌ (ap (λ (z : Answered ℕ × List Float). z.1) s) r.0, ap₂ ◌∷◌ (ap (λ (z : Answered ℕ × List Float). reported z.0.answer) s) r.1, r.2)
 
 -- ---- either order
 

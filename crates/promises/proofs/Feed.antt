@@ -12,10 +12,10 @@ use Rattle.counts.proofs.Truth.{two_ways}
 use Rattle.ramp.specs.Number.{zero32}
 use Rattle.session.specs.declared.Refusal.{Refusal}
 use Rattle.session.proofs.Refuse.{refused_or_done}
-use Rattle.ring.specs.declared.DrainAnswer.{DrainAnswer}
 use Rattle.ring.specs.declared.Drained.{Drained}
 use Rattle.ring.specs.Ring.{ring_ok, Within, held_of, from, waiting}
-use Rattle.ring.specs.Drain.{says_drain, whole_of, drained as drained_of, drain_done, drain_of}
+use Rattle.session.specs.Answer.{says}
+use Rattle.ring.specs.Drain.{whole_of, drained as drained_of, drain_done, drain_of}
 use Rattle.ring.proofs.Places.{within, ring_ok_law}
 use Rattle.ring.proofs.Pushed.{from_length}
 use Rattle.ring.proofs.Taking.{drain_block, drain_waits, drain_within, drain_even, drain_done_law}
@@ -32,6 +32,7 @@ use Rattle.host.proofs.Under.{number_says}
 use Rattle.promises.specs.Calls.{State, Feed, pump, code, refusal, after, with_session, pumping, feed_of}
 use Rattle.promises.specs.Feed.{Inside, waits, makes, PumpCut, draining, drained_frames, drained_feed, takes, OnlySilence, Silence, DrainRefused, HostDrains, Turn, pumped, drained, fed, made_in, left_in, fed_by, all_made, all_left, InOrder, WholeFrames}
 use Rattle.promises.proofs.Fine.{zero_fine}
+use Rattle.std.specs.Prelude.{Result, Ok, Err}
 
 -- ---- a drain
 
@@ -56,7 +57,7 @@ module _ (f : Feed) (out : List Float) (inside : Inside f) where
       let k : ℕ = whole_of (length f.store) f.ring (length out) in
       let count : drained_frames (draining f out).0.answer ≡ k = ap (λ (z : Drained × List Float). drained_frames z.0.answer) does in
       record {
-        accepted = ap (λ (z : Drained × List Float). code (says_drain z.0.answer)) does;
+        accepted = ap (λ (z : Drained × List Float). code (says z.0.answer)) does;
         whole = ap length front ∙ from_length f.store f.ring.head (k * 2) ∙ ap (λ (j : ℕ). j * 2) (sym count);
         silence =
             ap (λ (z : Drained × List Float). z.1) does
@@ -83,7 +84,7 @@ module _ (f : Feed) (out : List Float) (inside : Inside f) where
 pub silence : Silence
 silence f out inside = drain_silent f out inside
 
-drain_left : (f : Feed) (out : List Float) → ring_ok (length f.store) f.ring ≡ false → draining f out ≡ (drained_of (DrainAnswer.Refused Refusal.BadRing) f.ring, out)
+drain_left : (f : Feed) (out : List Float) → ring_ok (length f.store) f.ring ≡ false → draining f out ≡ (drained_of (Err Refusal.BadRing) f.ring, out)
 unfolding drain_of
 drain_left f out e = rw e
 
@@ -96,12 +97,12 @@ drain_refused f out n = go (two_ways (ring_ok (length f.store) f.ring))
         (ap (λ (z : Drained × List Float). record { ring = z.0.ring; store = f.store }) (drain_left f out e), ap (λ (z : Drained × List Float). z.1) (drain_left f out e))
 
 -- what a host reads of it is what it says
-read_drained : (z : Drained) → (says_by (drained_by z).refusal (drained_by z).frames ≡ says_drain z.answer) × ((drained_by z).ring ≡ z.ring)
+read_drained : (z : Drained) → (says_by (drained_by z).refusal (drained_by z).frames ≡ says z.answer) × ((drained_by z).ring ≡ z.ring)
 read_drained z = go z.answer refl
   where
-    go : (a : DrainAnswer) → z.answer ≡ a → (says_by (drained_by z).refusal (drained_by z).frames ≡ says_drain z.answer) × ((drained_by z).ring ≡ z.ring)
-    go (DrainAnswer.Drained n) e = rw e (refl, refl)
-    go (DrainAnswer.Refused k) e = rw e (number_says k 0, refl)
+    go : (a : Result ℕ Refusal) → z.answer ≡ a → (says_by (drained_by z).refusal (drained_by z).frames ≡ says z.answer) × ((drained_by z).ring ≡ z.ring)
+    go (Ok n) e = rw e (refl, refl)
+    go (Err k) e = rw e (number_says k 0, refl)
 
 pub host_drains : HostDrains
 unfolding drain_host

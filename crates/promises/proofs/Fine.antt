@@ -9,66 +9,62 @@ use Rattle.counts.specs.declared.Handle.{Handle}
 use Rattle.timeline.specs.declared.Submission.{Submission}
 use Rattle.transport.specs.declared.At.{At}
 use Rattle.session.specs.declared.Refusal.{Refusal}
-use Rattle.session.specs.declared.Weighed.{Weighed}
 use Rattle.session.specs.declared.Answered.{Answered}
 use Rattle.session.specs.Refusal.{number_of, unless}
 use Rattle.session.specs.Answer.{says}
 use Rattle.session.proofs.Refuse.{number_some, refused_or_done}
-use Rattle.block.specs.declared.BlockAnswered.{BlockAnswered}
-use Rattle.block.specs.Block.{says_block, block_of}
+use Rattle.block.specs.Block.{block_of}
 use Rattle.block.proofs.Weigh.{Accepted, accepted, block_done_law}
 use Rattle.clips.specs.Retire.{weigh_retire, retire_of}
-use Rattle.submission.specs.declared.SubmitAnswer.{SubmitAnswer}
-use Rattle.submission.specs.declared.SubmitAnswered.{SubmitAnswered}
-use Rattle.submission.specs.Answer.{says_submit}
 use Rattle.submission.specs.Submit.{weigh_submit, taken, submit_of}
 use Rattle.submission.specs.Order as order
 use Rattle.promises.specs.Calls.{State, retire, submit, block, code, refusal}
+use Rattle.std.specs.Prelude.{Result, Ok, Err}
 
 -- a call that says 0 weighs Fine
-pub zero_fine : {A : Type 0} (w : Weighed) (refusal : Refusal → A) (done : A) (told : A → ℕ) → ((k : Refusal) → told (refusal k) ≡ number_of k)
-    → told (unless w refusal done) ≡ 0 → w ≡ Weighed.Fine
+pub zero_fine : {A : Type 0} (w : Result (Unit {0}) Refusal) (refusal : Refusal → A) (done : A) (told : A → ℕ) → ((k : Refusal) → told (refusal k) ≡ number_of k)
+    → told (unless w refusal done) ≡ 0 → w ≡ Ok tt
 zero_fine w refusal done told e =
-    refused_or_done w refusal done (λ z. told z ≡ 0 → w ≡ Weighed.Fine) (λ k r z. absurd (none (told (refusal k)) k (e k) z)) (λ fine z. fine)
+    refused_or_done w refusal done (λ z. told z ≡ 0 → w ≡ Ok tt) (λ k r z. absurd (none (told (refusal k)) k (e k) z)) (λ fine z. fine)
   where
     none : (n : ℕ) (k : Refusal) → n ≡ number_of k → n ≡ 0 → ⊥
     none n k e z = let l : 1 ≤ number_of k = number_some k in omega arith
 
 -- and so does a retirement
-pub retire_weighs : (h : Handle) (x : State) → refusal (retire h) x ≡ 0 → weigh_retire x.session x.queue x.capture h ≡ Weighed.Fine
+pub retire_weighs : (h : Handle) (x : State) → refusal (retire h) x ≡ 0 → weigh_retire x.session x.queue x.capture h ≡ Ok tt
 unfolding retire_of
-retire_weighs h x = zero_fine {A = Answered} _ _ _ (λ a. code (says a.answer)) (λ k. refl)
+retire_weighs h x = zero_fine {A = Answered (Unit {0})} _ _ _ (λ a. code (says a.answer)) (λ k. refl)
 
 -- two calls that weigh the same: both are refused alike, or both do what they do
-pub both : {A B : Type 0} (w : Weighed) (refusal : Refusal → A) (done : A) (refusal' : Refusal → B) (done' : B) (P : A → B → Type 0)
+pub both : {A B : Type 0} (w : Result (Unit {0}) Refusal) (refusal : Refusal → A) (done : A) (refusal' : Refusal → B) (done' : B) (P : A → B → Type 0)
     → ((k : Refusal) → P (refusal k) (refusal' k)) → P done done' → P (unless w refusal done) (unless w refusal' done')
 unfolding unless
-both Weighed.Fine r d r' d' P f g = g
-both (Weighed.Refused k) r d r' d' P f g = f k
+both (Ok tt) r d r' d' P f g = g
+both (Err k) r d r' d' P f g = f k
 
 module _ (x : State) (out : List Float) where
   -- a block that says 0 is accepted,
   pub block_accepts : refusal (block out) x ≡ 0 → Accepted x.session x.queue x.capture x.pool out
   unfolding block_of
   block_accepts e =
-      accepted x.session x.queue x.capture x.pool out (zero_fine {A = BlockAnswered × List Float} _ _ _ (λ z. code (says_block z.0.answer)) (λ k. refl) e)
+      accepted x.session x.queue x.capture x.pool out (zero_fine {A = Answered ℕ × List Float} _ _ _ (λ z. code (says z.0.answer)) (λ k. refl) e)
 
   -- and one that is accepted says 0
   pub block_says_law : Accepted x.session x.queue x.capture x.pool out → refusal (block out) x ≡ 0
   block_says_law a = rw (block_done_law x.session x.queue x.capture x.pool out a)
 
 -- an answer that is no refusal has a number
-pub accepts : (r : SubmitAnswer) → code (says_submit r) ≡ 0 → order.accepted r ≡ true
-accepts (SubmitAnswer.Queued n) e = refl
-accepts (SubmitAnswer.Refused k) e = let some : 1 ≤ number_of k = number_some k in absurd (omega arith)
+pub accepts : (r : Result ℕ Refusal) → code (says r) ≡ 0 → order.accepted r ≡ true
+accepts (Ok n) e = refl
+accepts (Err k) e = let some : 1 ≤ number_of k = number_some k in absurd (omega arith)
 
 -- the number of the refusal that was weighed, 0 for none,
-abbrev pub weighed_number : Weighed → ℕ
-weighed_number Weighed.Fine = 0
-weighed_number (Weighed.Refused k) = number_of k
+abbrev pub weighed_number : Result (Unit {0}) Refusal → ℕ
+weighed_number (Ok tt) = 0
+weighed_number (Err k) = number_of k
 
 -- is what a call says,
-pub says_weighed : {A : Type 0} (w : Weighed) (refusal : Refusal → A) (done : A) (told : A → ℕ) → ((k : Refusal) → told (refusal k) ≡ number_of k) → told done ≡ 0
+pub says_weighed : {A : Type 0} (w : Result (Unit {0}) Refusal) (refusal : Refusal → A) (done : A) (told : A → ℕ) → ((k : Refusal) → told (refusal k) ≡ number_of k) → told done ≡ 0
     → told (unless w refusal done) ≡ weighed_number w
 says_weighed w refusal done told says none =
     refused_or_done w refusal done (λ a. told a ≡ weighed_number w) (λ k e. says k ∙ sym (ap weighed_number e)) (λ e. none ∙ sym (ap weighed_number e))
@@ -76,4 +72,4 @@ says_weighed w refusal done told says none =
 -- and so what a submission answers
 pub submit_says : (x : State) (y : Submission) (at : At) → refusal (submit y at) x ≡ weighed_number (weigh_submit x.session x.queue x.capture y)
 unfolding submit_of taken
-submit_says x y at = says_weighed {A = SubmitAnswered × List ℕ × List ℕ} _ _ _ (λ z. code (says_submit z.0.answer)) (λ k. refl) refl
+submit_says x y at = says_weighed {A = Answered ℕ × List ℕ × List ℕ} _ _ _ (λ z. code (says z.0.answer)) (λ k. refl) refl

@@ -11,8 +11,9 @@ use Rattle.timeline.specs.Queue.{frame}
 use Rattle.bank.specs.Sample.{frames_of}
 use Rattle.bank.specs.Recording.{view_of}
 use Rattle.stage.specs.declared.Tail.{Tail}
-use Rattle.block.specs.declared.BlockAnswered.{BlockAnswered}
-use Rattle.block.specs.Block.{says_block, reported}
+use Rattle.session.specs.declared.Answered.{Answered}
+use Rattle.session.specs.Answer.{says}
+use Rattle.block.specs.Block.{reported}
 use Rattle.block.proofs.Pools.{SameTail, SameClaim, block_agrees_on}
 use Rattle.submission.specs.Order.{waiting}
 use Rattle.promises.specs.Calls.{State, code}
@@ -39,4 +40,4 @@ nothing_else x pool out r =
           (λ (y : QueueRecord). frame y < x.session.stage.clock.0 + frames_of out → SameClaim (view_of x.pool x.session.bank) (view_of pool x.session.bank) (claim_of y.command))
           (λ y f l. claim_same x pool (claim_of y.command) (f l)) (waiting x.session x.queue) r.named;
     }) in
-    (ap (λ (z : BlockAnswered × List Float). z.1) e, ap (λ (z : BlockAnswered × List Float). reported z.0.answer) e, ap (λ (z : BlockAnswered × List Float). code (says_block z.0.answer)) e, ap (λ (z : BlockAnswered × List Float). z.0.session) e)
+    (ap (λ (z : Answered ℕ × List Float). z.1) e, ap (λ (z : Answered ℕ × List Float). reported z.0.answer) e, ap (λ (z : Answered ℕ × List Float). code (says z.0.answer)) e, ap (λ (z : Answered ℕ × List Float). z.0.session) e)

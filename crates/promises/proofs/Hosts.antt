@@ -17,7 +17,7 @@ use Rattle.session.proofs.Refuse.{unless_both}
 use Rattle.block.specs.Block.{block_of}
 use Rattle.ring.specs.declared.SampleRing.{SampleRing}
 use Rattle.pump.specs.Pump.{pump_of}
-use Rattle.clips.specs.declared.LoadAnswered.{LoadAnswered}
+use Rattle.session.specs.declared.Answered.{Answered}
 use Rattle.clips.specs.Open.{no_session, open_of}
 use Rattle.clips.specs.Load.{load_of}
 use Rattle.clips.specs.Retire.{retire_of}
@@ -227,7 +227,7 @@ names_after hosts.metrics x e =
 open_names : (o : Opening) → is_session (host_opened o).1.session ≡ true
 unfolding open_host open_of
 open_names o =
-    unless_both {A = LoadAnswered × List Float} _ _ _ (λ z. is_session (opened_by z.0).session ≡ true) (λ k. turned_names (number_of k) (host_of no_session) (names no_session))
+    unless_both {A = Answered Handle × List Float} _ _ _ (λ z. is_session (opened_by z.0).session ≡ true) (λ k. turned_names (number_of k) (host_of no_session) (names no_session))
     (λ fine. names _)
 
 -- so whatever a host has reached names a case by each number

@@ -11,17 +11,14 @@ use Rattle.bank.specs.Sample.{frames_of, is_pool}
 use Rattle.stage.specs.declared.Settings.{Settings}
 use Rattle.stage.specs.declared.Stage.{Stage}
 use Rattle.session.specs.declared.Session.{Session}
-use Rattle.session.specs.declared.Weighed.{Weighed}
 use Rattle.session.specs.declared.Answered.{Answered}
 use Rattle.session.specs.WellFormed.{well_formed}
 use Rattle.session.proofs.Typed.{Typed}
 use Rattle.session.proofs.Refuse.{unless_both}
-use Rattle.block.specs.declared.BlockAnswered.{BlockAnswered}
 use Rattle.block.specs.Block.{block_of}
 use Rattle.block.proofs.Weigh.{accepted}
 use Rattle.block.proofs.Kept.{block_came, call_keeps}
-use Rattle.clips.specs.declared.LoadAnswered.{LoadAnswered}
-use Rattle.clips.specs.Answer.{says_load}
+use Rattle.session.specs.Answer.{says}
 use Rattle.clips.specs.Open.{weigh_open, open_of}
 use Rattle.clips.specs.Load.{load_of}
 use Rattle.clips.specs.Retire.{retire_of}
@@ -37,6 +34,7 @@ use Rattle.promises.proofs.Pumping.{pump_step}
 use Rattle.promises.proofs.Fine.{zero_fine}
 use Rattle.submission.proofs.Leaves.{heart, submit_leaves, transition_leaves, replay_leaves}
 use Rattle.promises.proofs.Leaves.{start_leaves, stop_leaves}
+use Rattle.std.specs.Prelude.{Ok}
 
 -- a good state of its three parts, and the types again
 good : (x : State) → well_formed x.session x.queue x.capture ≡ true → is_pool x.pool x.session.settings.pool ≡ true → Typed x.session → Good x
@@ -61,26 +59,26 @@ left k x e pool formed p =
 -- loading, retiring and applying leave the settings
 load_settings : (s : Session) (q c : List ℕ) (pool samples : List Float) (kind : Kind) (rate : ℕ) → (load_of s q c pool samples kind rate).0.session.settings ≡ s.settings
 unfolding load_of
-load_settings s q c pool samples kind rate = unless_both {A = LoadAnswered × List Float} _ _ _ (λ z. z.0.session.settings ≡ s.settings) (λ k. refl) (λ fine. refl)
+load_settings s q c pool samples kind rate = unless_both {A = Answered Handle × List Float} _ _ _ (λ z. z.0.session.settings ≡ s.settings) (λ k. refl) (λ fine. refl)
 
 retire_settings : (s : Session) (q c : List ℕ) (h : Handle) → (retire_of s q c h).session.settings ≡ s.settings
 unfolding retire_of
-retire_settings s q c h = unless_both {A = Answered} _ _ _ (λ z. z.session.settings ≡ s.settings) (λ k. refl) (λ fine. refl)
+retire_settings s q c h = unless_both {A = Answered (Unit {0})} _ _ _ (λ z. z.session.settings ≡ s.settings) (λ k. refl) (λ fine. refl)
 
 apply_settings : (s : Session) (q c : List ℕ) (y : PerformanceSnapshot) → (apply_of s q c y).session.settings ≡ s.settings
 unfolding apply_of
-apply_settings s q c y = unless_both {A = Answered} _ _ _ (λ z. z.session.settings ≡ s.settings) (λ k. refl) (λ fine. refl)
+apply_settings s q c y = unless_both {A = Answered (Unit {0})} _ _ _ (λ z. z.session.settings ≡ s.settings) (λ k. refl) (λ fine. refl)
 
 -- a block leaves settings and bank, and the table its places
 module _ (s : Session) (q c : List ℕ) (pool out : List Float) where
   block_settings : (block_of s q c pool out).0.session.settings ≡ s.settings
   unfolding block_of
-  block_settings = unless_both {A = BlockAnswered × List Float} _ _ _ (λ z. z.0.session.settings ≡ s.settings) (λ k. refl) (λ fine. refl)
+  block_settings = unless_both {A = Answered ℕ × List Float} _ _ _ (λ z. z.0.session.settings ≡ s.settings) (λ k. refl) (λ fine. refl)
 
   block_typed : well_formed s q c ≡ true → Typed s → Typed (block_of s q c pool out).0.session
   unfolding block_of
   block_typed formed t =
-      unless_both {A = BlockAnswered × List Float} _ _ _ (λ z. Typed z.0.session) (λ k. t)
+      unless_both {A = Answered ℕ × List Float} _ _ _ (λ z. Typed z.0.session) (λ k. t)
       (λ fine. record { bank = t.bank; voices = (block_came s q c pool formed t.voices (frames_of out) (accepted s q c pool out fine).clock).stands.places })
 
 -- so every call does
@@ -130,9 +128,9 @@ keeps (apply y) x g p =
 keeps metrics x g p = rw (metrics_leave x.session x.queue x.capture) p
 
 -- an opening that is not refused weighs Fine
-pub open_fine : (o : Opening) → (opened o).0 ≡ 0 → weigh_open o.settings o.queue o.capture o.pool o.samples o.rate o.extent ≡ Weighed.Fine
+pub open_fine : (o : Opening) → (opened o).0 ≡ 0 → weigh_open o.settings o.queue o.capture o.pool o.samples o.rate o.extent ≡ Ok tt
 unfolding open_of
-open_fine o = zero_fine {A = LoadAnswered × List Float} _ _ _ (λ z. code (says_load z.0.answer)) (λ k. refl)
+open_fine o = zero_fine {A = Answered Handle × List Float} _ _ _ (λ z. code (says z.0.answer)) (λ k. refl)
 
 -- so each state reached is good
 pub reached_good : ReachedGood

@@ -27,7 +27,7 @@ use Rattle.stage.specs.Machine.{Told, FrameMade, machine_of, passes_of}
 use Rattle.stage.proofs.Passes.{passes_append}
 use Rattle.session.specs.Session.{extent_now}
 use Rattle.session.specs.Reading.{laps_of}
-use Rattle.block.specs.declared.BlockAnswered.{BlockAnswered}
+use Rattle.session.specs.declared.Answered.{Answered}
 use Rattle.block.specs.Block.{ran_of, reported}
 use Rattle.block.proofs.Weigh.{block_done_law}
 use Rattle.promises.specs.Calls.{State, Reached}
@@ -132,7 +132,7 @@ laps_count =
       none = λ x r. (reached_counted x r).none;
       rise = λ x out r a e.
           let done = block_done_law x.session x.queue x.capture x.pool out (block_accepts x out a) in
-          ap (λ (z : BlockAnswered × List Float). laps_of z.0.session) done
+          ap (λ (z : Answered ℕ × List Float). laps_of z.0.session) done
           ∙ ran_rises x (frames_of out) (reached_counted x r).low e
-          ∙ sym (ap (λ (z : BlockAnswered × List Float). min (laps_of x.session + reported z.0.answer) (2 ^ 64 - 1)) done);
+          ∙ sym (ap (λ (z : Answered ℕ × List Float). min (laps_of x.session + reported z.0.answer) (2 ^ 64 - 1)) done);
     }

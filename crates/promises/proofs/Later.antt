@@ -21,15 +21,13 @@ use Rattle.stage.specs.declared.Stage.{Stage}
 use Rattle.stage.specs.Machine.{Told, FrameMade, machine_of, output_of, passes_of}
 use Rattle.session.specs.declared.Session.{Session}
 use Rattle.session.specs.declared.Refusal.{Refusal}
-use Rattle.session.specs.declared.Weighed.{Weighed}
 use Rattle.session.specs.Refusal.{unless}
 use Rattle.session.specs.Session.{with_stage}
-use Rattle.block.specs.declared.BlockAnswer.{BlockAnswer}
-use Rattle.block.specs.declared.BlockAnswered.{BlockAnswered}
-use Rattle.block.specs.Block.{block_answered, weigh_block, ran_of, block_done, block_of, reported}
+use Rattle.session.specs.declared.Answered.{Answered}
+use Rattle.session.specs.Answer.{answered}
+use Rattle.block.specs.Block.{weigh_block, ran_of, block_done, block_of, reported}
 use Rattle.block.proofs.Weigh.{Accepted, block_done_law}
 use Rattle.block.proofs.Queue.{queue_ran}
-use Rattle.submission.specs.declared.SubmitAnswered.{SubmitAnswered}
 use Rattle.submission.specs.Submit.{submit_of}
 use Rattle.submission.specs.Order.{waiting, shallow, then_block, AlikeButDeepest}
 use Rattle.submission.proofs.Later.{either_side}
@@ -42,6 +40,7 @@ use Rattle.submission.proofs.Leaves.{heart, submit_leaves}
 use Rattle.promises.proofs.Fine.{both, block_accepts, block_says_law}
 use Rattle.promises.proofs.Exchanged.{submit_accepts}
 use Rattle.promises.proofs.Kept.{keeps}
+use Rattle.std.specs.Prelude.{Result, Err}
 
 -- ---- later blocks
 
@@ -66,13 +65,13 @@ module _ (x y : State) (f : Good x) (g : Good y) (e : SameButDeepest x y) where
   weighs_same out = rw (f.formed, g.formed, settings, stage, e.pool)
 
   -- so a block makes the same of both and leaves them the same but for the deepest depth
-  abbrev Same : BlockAnswered × List Float → BlockAnswered × List Float → Type 0
+  abbrev Same : Answered ℕ × List Float → Answered ℕ × List Float → Type 0
   Same a b = (a.1 ≡ b.1) × (reported a.0.answer ≡ reported b.0.answer) × SameButDeepest (with_session x a.0.session) (with_session y b.0.session)
 
   step_same : (out : List Float) → Same (block_of x.session x.queue x.capture x.pool out) (block_of y.session y.queue y.capture y.pool out)
   unfolding block_of
   step_same out =
-      subst (λ (w : Weighed). Same (unless w (refused x.session) (block_done x.session a)) (unless (weigh_block y.session y.queue y.capture y.pool out) (refused y.session) (block_done y.session b)))
+      subst (λ (w : Result (Unit {0}) Refusal). Same (unless w (refused x.session) (block_done x.session a)) (unless (weigh_block y.session y.queue y.capture y.pool out) (refused y.session) (block_done y.session b)))
       (sym (weighs_same out))
       (both (weigh_block y.session y.queue y.capture y.pool out) (refused x.session) (block_done x.session a) (refused y.session) (block_done y.session b) Same
       (λ k. (refl, refl, e)) (made, passes, record { session = sessions; pool = e.pool; queue = queues; capture = e.capture }))
@@ -80,8 +79,8 @@ module _ (x y : State) (f : Good x) (g : Good y) (e : SameButDeepest x y) where
       n : ℕ
       n = frames_of out
 
-      refused : Session → Refusal → BlockAnswered × List Float
-      refused s k = (block_answered (BlockAnswer.Refused k) s, out)
+      refused : Session → Refusal → Answered ℕ × List Float
+      refused s k = (answered (Err k) s, out)
 
       a : Ran Stage QueueRecord FrameMade Told
       a = ran_of x.session x.queue x.pool n
@@ -120,7 +119,7 @@ module _ (x : State) (y : Submission) (f : ClockFrame) (out : List Float) (g : G
   abbrev s : Session
   s = x.session
 
-  abbrev z : SubmitAnswered × List ℕ × List ℕ
+  abbrev z : Answered ℕ × List ℕ × List ℕ
   z = submit_of s x.queue x.capture y (At.Frame f)
 
   abbrev view : View
@@ -166,15 +165,15 @@ module _ (x : State) (y : Submission) (f : ClockFrame) (out : List Float) (g : G
 
   same_samples : out_of (after (submit y (At.Frame f)) x) out ≡ out_of x out
   same_samples =
-      ap (λ (r : BlockAnswered × List Float). r.1) (block_done_law z.0.session z.1 z.2 x.pool out c)
+      ap (λ (r : Answered ℕ × List Float). r.1) (block_done_law z.0.session z.1 z.2 x.pool out c)
       ∙ ap (λ (r : Ran Stage QueueRecord FrameMade Told). output_of r.made) ran_joined
-      ∙ sym (ap (λ (r : BlockAnswered × List Float). r.1) (block_done_law s x.queue x.capture x.pool out a))
+      ∙ sym (ap (λ (r : Answered ℕ × List Float). r.1) (block_done_law s x.queue x.capture x.pool out a))
 
   same_passes : report_of (after (submit y (At.Frame f)) x) out ≡ report_of x out
   same_passes =
-      ap (λ (r : BlockAnswered × List Float). reported r.0.answer) (block_done_law z.0.session z.1 z.2 x.pool out c)
+      ap (λ (r : Answered ℕ × List Float). reported r.0.answer) (block_done_law z.0.session z.1 z.2 x.pool out c)
       ∙ ap (λ (r : Ran Stage QueueRecord FrameMade Told). passes_of r.made) ran_joined
-      ∙ sym (ap (λ (r : BlockAnswered × List Float). reported r.0.answer) (block_done_law s x.queue x.capture x.pool out a))
+      ∙ sym (ap (λ (r : Answered ℕ × List Float). reported r.0.answer) (block_done_law s x.queue x.capture x.pool out a))
 
   -- the two sides
   sides : AlikeButDeepest (then_block z joined.at.core (length joined.at.queue))

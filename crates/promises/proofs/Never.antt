@@ -17,31 +17,20 @@ use Rattle.bank.specs.declared.Stands.{Stands}
 use Rattle.bank.specs.Sample.{is_pool}
 use Rattle.session.specs.declared.Session.{Session}
 use Rattle.session.specs.declared.Refusal.{Refusal}
-use Rattle.session.specs.declared.Weighed.{Weighed}
 use Rattle.session.specs.declared.Answered.{Answered}
 use Rattle.session.specs.Refusal.{number_of, unless}
 use Rattle.session.specs.WellFormed.{well_formed, weigh_only}
 use Rattle.session.specs.Answer.{says}
 use Rattle.session.proofs.Refuse.{numbered, other, passes, refused_or_done}
-use Rattle.block.specs.declared.BlockAnswered.{BlockAnswered}
-use Rattle.block.specs.Block.{says_block, weigh_block, block_of}
-use Rattle.clips.specs.declared.LoadAnswered.{LoadAnswered}
-use Rattle.clips.specs.Answer.{says_load}
+use Rattle.block.specs.Block.{weigh_block, block_of}
 use Rattle.clips.specs.Load.{weigh_load, load_of}
 use Rattle.clips.specs.Retire.{weigh_retire, retire_of}
 use Rattle.submission.specs.declared.Scales.{Scales}
-use Rattle.submission.specs.declared.SubmitAnswered.{SubmitAnswered}
-use Rattle.submission.specs.declared.ReplayAnswered.{ReplayAnswered}
-use Rattle.submission.specs.Answer.{says_submit, says_replay}
 use Rattle.submission.specs.Weigh.{weigh_command}
 use Rattle.submission.specs.Submit.{weigh_submit, taken, submit_of}
 use Rattle.submission.specs.Transition.{weigh_transition, transition_of}
 use Rattle.submission.specs.Replay.{replay_of}
 use Rattle.control.specs.declared.PerformanceSnapshot.{PerformanceSnapshot}
-use Rattle.control.specs.declared.StopAnswered.{StopAnswered}
-use Rattle.control.specs.declared.SnapshotAnswered.{SnapshotAnswered}
-use Rattle.control.specs.declared.MetricsAnswered.{MetricsAnswered}
-use Rattle.control.specs.Answer.{says_stop, says_snapshot, says_metrics}
 use Rattle.control.specs.Capture.{weigh_stop, start_capture_of, stop_capture_of}
 use Rattle.control.specs.Snapshot.{snapshot_of, weigh_apply, apply_of}
 use Rattle.control.specs.Metrics.{metrics_of}
@@ -49,6 +38,9 @@ use Rattle.promises.specs.Calls.{State, Call, load, retire, submit, transition, 
 use Rattle.promises.specs.Kept.{Good, NeverIllFormed}
 use Rattle.promises.proofs.Pumping.{pump_step}
 use Rattle.promises.proofs.Kept.{reached_good}
+use Rattle.std.specs.Prelude.{Result}
+use Rattle.submission.specs.declared.Report.{Report}
+use Rattle.control.specs.declared.PerformanceMetrics.{PerformanceMetrics}
 
 -- ---- a chain of refusals that gives neither 1 nor 2
 
@@ -57,7 +49,7 @@ abbrev low : ℕ → Bool
 low n = leb n 2
 
 -- it gives one of them
-abbrev ill : Weighed → Bool
+abbrev ill : Result (Unit {0}) Refusal → Bool
 ill = numbered low
 
 command_other : (w : Scales) (h : Stands) (x : Command) → ill (weigh_command w h x) ≡ false
@@ -104,7 +96,7 @@ module _ (s : Session) (q c : List ℕ) (formed : well_formed s q c ≡ true) wh
 abbrev Neither : ℕ → Type 0
 Neither n = (n ≢ 1) × (n ≢ 2)
 
-neither : {A : Type 0} (w : Weighed) (refusal : Refusal → A) (done : A) (told : A → ℕ) → ill w ≡ false → ((k : Refusal) → told (refusal k) ≡ number_of k) → told done ≡ 0
+neither : {A : Type 0} (w : Result (Unit {0}) Refusal) (refusal : Refusal → A) (done : A) (told : A → ℕ) → ill w ≡ false → ((k : Refusal) → told (refusal k) ≡ number_of k) → told done ≡ 0
     → Neither (told (unless w refusal done))
 neither w refusal done told e f g =
     refused_or_done w refusal done (λ z. Neither (told z))
@@ -115,28 +107,28 @@ neither w refusal done told e f g =
 block_neither : (out : List Float) (x : State) → Good x → Neither (refusal (block out) x)
 unfolding block_of
 block_neither out x g =
-    neither {A = BlockAnswered × List Float} _ _ _ (λ z. code (says_block z.0.answer)) (block_other x.session x.queue x.capture g.formed x.pool g.pooled out) (λ k. refl) refl
+    neither {A = Answered ℕ × List Float} _ _ _ (λ z. code (says z.0.answer)) (block_other x.session x.queue x.capture g.formed x.pool g.pooled out) (λ k. refl) refl
 
 step_neither : (k : Call) (x : State) → Good x → Neither (refusal k x)
 unfolding load_of retire_of submit_of taken transition_of block_of start_capture_of stop_capture_of replay_of snapshot_of apply_of metrics_of
 step_neither (load samples kind rate) x g =
-    neither {A = LoadAnswered × List Float} _ _ _ (λ z. code (says_load z.0.answer)) (load_other x.session x.queue x.capture g.formed x.pool g.pooled samples kind rate)
+    neither {A = Answered Handle × List Float} _ _ _ (λ z. code (says z.0.answer)) (load_other x.session x.queue x.capture g.formed x.pool g.pooled samples kind rate)
     (λ k. refl) refl
-step_neither (retire h) x g = neither {A = Answered} _ _ _ (λ z. code (says z.answer)) (retire_other x.session x.queue x.capture g.formed h) (λ k. refl) refl
+step_neither (retire h) x g = neither {A = Answered (Unit {0})} _ _ _ (λ z. code (says z.answer)) (retire_other x.session x.queue x.capture g.formed h) (λ k. refl) refl
 step_neither (submit y at) x g =
-    neither {A = SubmitAnswered × List ℕ × List ℕ} _ _ _ (λ z. code (says_submit z.0.answer)) (submit_other x.session x.queue x.capture g.formed y) (λ k. refl) refl
+    neither {A = Answered ℕ × List ℕ × List ℕ} _ _ _ (λ z. code (says z.0.answer)) (submit_other x.session x.queue x.capture g.formed y) (λ k. refl) refl
 step_neither (transition f at) x g =
-    neither {A = SubmitAnswered × List ℕ × List ℕ} _ _ _ (λ z. code (says_submit z.0.answer)) (transition_other x.session x.queue x.capture g.formed f) (λ k. refl) refl
+    neither {A = Answered ℕ × List ℕ × List ℕ} _ _ _ (λ z. code (says z.0.answer)) (transition_other x.session x.queue x.capture g.formed f) (λ k. refl) refl
 step_neither (block out) x g = block_neither out x g
 step_neither (pump f n) x g = pump_step x f n (λ m y. Neither m) (λ out. block_neither out x g) (λ (e : ◌≡◌ {A = ℕ} 23 1). omega arith, λ (e : ◌≡◌ {A = ℕ} 23 2). omega arith)
-step_neither start_capture x g = neither {A = Answered} _ _ _ (λ z. code (says z.answer)) (only_other x.session x.queue x.capture g.formed) (λ k. refl) refl
+step_neither start_capture x g = neither {A = Answered (Unit {0})} _ _ _ (λ z. code (says z.answer)) (only_other x.session x.queue x.capture g.formed) (λ k. refl) refl
 step_neither (stop_capture list) x g =
-    neither {A = StopAnswered × List ℕ} _ _ _ (λ z. code (says_stop z.0.answer)) (stop_other x.session x.queue x.capture g.formed list) (λ k. refl) refl
+    neither {A = Answered ℕ × List ℕ} _ _ _ (λ z. code (says z.0.answer)) (stop_other x.session x.queue x.capture g.formed list) (λ k. refl) refl
 step_neither (replay list) x g =
-    neither {A = ReplayAnswered × List ℕ} _ _ _ (λ z. code (says_replay z.0.answer)) (only_other x.session x.queue x.capture g.formed) (λ k. refl) refl
-step_neither snapshot x g = neither {A = SnapshotAnswered} _ _ _ (λ z. code (says_snapshot z.answer)) (only_other x.session x.queue x.capture g.formed) (λ k. refl) refl
-step_neither (apply y) x g = neither {A = Answered} _ _ _ (λ z. code (says z.answer)) (apply_other x.session x.queue x.capture g.formed y) (λ k. refl) refl
-step_neither metrics x g = neither {A = MetricsAnswered} _ _ _ (λ z. code (says_metrics z.answer)) (only_other x.session x.queue x.capture g.formed) (λ k. refl) refl
+    neither {A = Answered Report × List ℕ} _ _ _ (λ z. code (says z.0.answer)) (only_other x.session x.queue x.capture g.formed) (λ k. refl) refl
+step_neither snapshot x g = neither {A = Answered PerformanceSnapshot} _ _ _ (λ z. code (says z.answer)) (only_other x.session x.queue x.capture g.formed) (λ k. refl) refl
+step_neither (apply y) x g = neither {A = Answered (Unit {0})} _ _ _ (λ z. code (says z.answer)) (apply_other x.session x.queue x.capture g.formed y) (λ k. refl) refl
+step_neither metrics x g = neither {A = Answered PerformanceMetrics} _ _ _ (λ z. code (says z.answer)) (only_other x.session x.queue x.capture g.formed) (λ k. refl) refl
 
 -- in a state reached from opening no call gives 1 or 2
 pub never_ill_formed : NeverIllFormed

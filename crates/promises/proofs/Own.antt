@@ -8,10 +8,9 @@ use Rattle.counts.specs.declared.Handle.{Handle}
 use Rattle.bank.specs.declared.Clip.{Clip}
 use Rattle.bank.specs.Slots.{clip_of, empty_bank, loaded_in}
 use Rattle.bank.proofs.Claims.{song_has}
-use Rattle.session.specs.declared.Weighed.{Weighed}
 use Rattle.session.specs.Answer.{Says, refused, gives}
 use Rattle.session.proofs.Parts.{parts}
-use Rattle.clips.specs.declared.LoadAnswered.{LoadAnswered}
+use Rattle.session.specs.declared.Answered.{Answered}
 use Rattle.clips.specs.Open.{weigh_open, first_handle, first_clip, open_done, open_of}
 use Rattle.clips.specs.Load.{weigh_load, handle_for}
 use Rattle.clips.proofs.Loaded.{load_fine, load_done_law, load_gives, load_live, load_clip, load_sounds}
@@ -23,6 +22,7 @@ use Rattle.promises.specs.Stale.{AllGiven}
 use Rattle.promises.specs.Own.{Clipped, StandsFor, LoadGives, loading, OpenGives, song_of, ReadsItsOwn}
 use Rattle.promises.proofs.Kept.{types, keeps, reached_good}
 use Rattle.promises.proofs.Banked.{Changes, last_rises, live_before, view_stays, clip_stays, kept_by_all}
+use Rattle.std.specs.Prelude.{Ok}
 
 -- ---- what is kept by every call
 
@@ -57,7 +57,7 @@ handle_in (refused n) = first_handle
 handle_in (gives h) = h
 
 module _ (x : State) (c : Clipped) (h : Handle) (e : LoadGives x c h) where
-  fine : weigh_load x.session x.queue x.capture x.pool c.samples c.kind c.rate ≡ Weighed.Fine
+  fine : weigh_load x.session x.queue x.capture x.pool c.samples c.kind c.rate ≡ Ok tt
   fine = load_fine x.session x.queue x.capture x.pool c.samples c.kind c.rate h e
 
   its : h ≡ handle_for x.session
@@ -68,7 +68,7 @@ module _ (x : State) (c : Clipped) (h : Handle) (e : LoadGives x c h) where
 
   last : (after (loading c) x).session.bank.last ≡ x.session.bank.last + 1
   unfolding loaded_in
-  last = ap (λ (z : LoadAnswered × List Float). z.0.session.bank.last) (load_done_law x.session x.queue x.capture x.pool c.samples c.kind c.rate fine)
+  last = ap (λ (z : Answered Handle × List Float). z.0.session.bank.last) (load_done_law x.session x.queue x.capture x.pool c.samples c.kind c.rate fine)
 
   module _ (g : Good x) where
     alive : Live h (after (loading c) x)
@@ -91,7 +91,7 @@ module _ (x : State) (c : Clipped) (h : Handle) (e : LoadGives x c h) where
 -- ---- opening
 
 module _ (o : Opening) (h : Handle) (e : OpenGives o h) where
-  open_weighs : weigh_open o.settings o.queue o.capture o.pool o.samples o.rate o.extent ≡ Weighed.Fine
+  open_weighs : weigh_open o.settings o.queue o.capture o.pool o.samples o.rate o.extent ≡ Ok tt
   open_weighs = open_fine o.settings o.queue o.capture o.pool o.samples o.rate o.extent h e
 
   open_its : h ≡ first_handle
@@ -105,10 +105,10 @@ module _ (o : Opening) (h : Handle) (e : OpenGives o h) where
 
   open_last : (opened o).1.session.bank.last ≡ 1
   unfolding loaded_in
-  open_last = ap (λ (z : LoadAnswered × List Float). z.0.session.bank.last) done
+  open_last = ap (λ (z : Answered Handle × List Float). z.0.session.bank.last) done
 
   open_song : (opened o).1.session.stage.playhead.song ≡ first_handle
-  open_song = ap (λ (z : LoadAnswered × List Float). z.0.session.stage.playhead.song) done
+  open_song = ap (λ (z : Answered Handle × List Float). z.0.session.stage.playhead.song) done
 
   open_alive : Live h (opened o).1
   open_alive =
@@ -117,7 +117,7 @@ module _ (o : Opening) (h : Handle) (e : OpenGives o h) where
 
   open_clip : clip_of (opened o).1.session.bank first_handle ≡ first_clip o.samples o.rate o.extent
   unfolding loaded_in empty_bank
-  open_clip = ap (λ (z : LoadAnswered × List Float). clip_of z.0.session.bank first_handle) done
+  open_clip = ap (λ (z : Answered Handle × List Float). clip_of z.0.session.bank first_handle) done
 
   open_own : Own h (song_of o) (opened o).1
   open_own =

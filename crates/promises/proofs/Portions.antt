@@ -16,9 +16,9 @@ use Rattle.stage.specs.Machine.{machine_of}
 use Rattle.stage.proofs.Clock.{clocked}
 use Rattle.session.specs.declared.Session.{Session}
 use Rattle.session.proofs.Parts.{parts}
-use Rattle.block.specs.declared.BlockAnswer.{BlockAnswer}
-use Rattle.block.specs.declared.BlockAnswered.{BlockAnswered}
-use Rattle.block.specs.Block.{block_answered, ran_of, block_done, block_of, reported}
+use Rattle.session.specs.declared.Answered.{Answered}
+use Rattle.session.specs.Answer.{answered}
+use Rattle.block.specs.Block.{ran_of, block_done, block_of, reported}
 use Rattle.block.proofs.Weigh.{Accepted, block_done_law}
 use Rattle.block.proofs.Cut.{block_cut}
 use Rattle.pump.specs.declared.Pumped.{Pumped}
@@ -34,6 +34,7 @@ use Rattle.promises.proofs.Kept.{keeps}
 use Rattle.promises.proofs.Cut.{cut}
 use Rattle.promises.proofs.Pumping.{as_block}
 use Rattle.promises.proofs.Feed.{pump_accepts, turn_keeps}
+use Rattle.std.specs.Prelude.{Ok}
 
 -- a block of no frames is accepted
 none_accepted : (x : State) → Good x → Accepted x.session x.queue x.capture x.pool []
@@ -55,7 +56,7 @@ module _ (x : State) (o u : List Float) (g : Good x) (even : length o % 2 ≡ 0)
       let l = length-append o u in
       let clock = block_clock (machine_of s.settings (view_of x.pool s.bank)) (clocked s.settings (view_of x.pool s.bank)) (frames_of o) (stand s.stage (queue x.queue s.queued)) in
       let later : Accepted (block_done s (ran_of s x.queue x.pool (frames_of o))).0.session x.queue x.capture x.pool u =
-      subst (λ (z : BlockAnswered × List Float). Accepted z.0.session x.queue x.capture x.pool u) (block_done_law s x.queue x.capture x.pool o a) b in
+      subst (λ (z : Answered ℕ × List Float). Accepted z.0.session x.queue x.capture x.pool u) (block_done_law s x.queue x.capture x.pool o a) b in
       let odd = eqb-false (length u % 2) 1 b.even in
       record {
         formed = a.formed;
@@ -65,20 +66,20 @@ module _ (x : State) (o u : List Float) (g : Good x) (even : length o % 2 ≡ 0)
       }
 
   -- and is what both give
-  both_cut : let y : BlockAnswered × List Float = block_of x.session x.queue x.capture x.pool o in
-      let z : BlockAnswered × List Float = block_of y.0.session x.queue x.capture x.pool u in
+  both_cut : let y : Answered ℕ × List Float = block_of x.session x.queue x.capture x.pool o in
+      let z : Answered ℕ × List Float = block_of y.0.session x.queue x.capture x.pool u in
       block_of x.session x.queue x.capture x.pool (o ++ u)
-      ≡ (block_answered (BlockAnswer.Done (reported y.0.answer + reported z.0.answer)) z.0.session, y.1 ++ z.1)
+      ≡ (answered (Ok (reported y.0.answer + reported z.0.answer)) z.0.session, y.1 ++ z.1)
   both_cut = block_cut x.session x.queue x.capture x.pool o u g.voices both_accepted a.even
 
   both_samples : out_of x o ++ out_of (after (block o) x) u ≡ out_of x (o ++ u)
-  both_samples = sym (ap (λ (z : BlockAnswered × List Float). z.1) both_cut)
+  both_samples = sym (ap (λ (z : Answered ℕ × List Float). z.1) both_cut)
 
   both_passes : report_of x o + report_of (after (block o) x) u ≡ report_of x (o ++ u)
-  both_passes = sym (ap (λ (z : BlockAnswered × List Float). reported z.0.answer) both_cut)
+  both_passes = sym (ap (λ (z : Answered ℕ × List Float). reported z.0.answer) both_cut)
 
   both_state : after (block u) (after (block o) x) ≡ after (block (o ++ u)) x
-  both_state = sym (ap (λ (z : BlockAnswered × List Float). with_session x z.0.session) both_cut)
+  both_state = sym (ap (λ (z : Answered ℕ × List Float). with_session x z.0.session) both_cut)
 
 -- what an accepted pump makes are the samples of a block of its frames
 pump_sounds : (x : State) (f : Feed) (n : ℕ) (o : List Float) → refusal (pump f n) x ≡ 0 → refusal (block o) x ≡ 0 → frames_of o ≡ frames_made (length f.store) f.ring n
@@ -86,7 +87,7 @@ pump_sounds : (x : State) (f : Feed) (n : ℕ) (o : List Float) → refusal (pum
 pump_sounds x f n o e b many =
     ap (λ (z : Pumped × List Float). makes x z.0.answer) (pump_done_law x.session x.queue x.capture x.pool f.ring f.store n (pump_accepts x f n e))
     ∙ ap (λ (k : ℕ). (block_done x.session (ran_of x.session x.queue x.pool k)).1) (sym many)
-    ∙ sym (ap (λ (z : BlockAnswered × List Float). z.1) (block_done_law x.session x.queue x.capture x.pool o (block_accepts x o b)))
+    ∙ sym (ap (λ (z : Answered ℕ × List Float). z.1) (block_done_law x.session x.queue x.capture x.pool o (block_accepts x o b)))
 
 -- what a refused one leaves and makes
 pump_leaves : (x : State) (f : Feed) (n : ℕ) → refusal (pump f n) x ≢ 0

@@ -12,12 +12,12 @@ use Rattle.counts.proofs.Truth.{two_ways}
 use Rattle.ramp.specs.Number.{zero32}
 use Rattle.bank.specs.Sample.{frames_of, is_odd}
 use Rattle.session.specs.declared.Refusal.{Refusal}
-use Rattle.session.specs.declared.Weighed.{Weighed}
 use Rattle.session.specs.Refusal.{number_of, first}
 use Rattle.session.specs.WellFormed.{well_formed}
 use Rattle.session.proofs.Refuse.{number_some, stop, skip}
-use Rattle.block.specs.declared.BlockAnswered.{BlockAnswered}
-use Rattle.block.specs.Block.{says_block, reported, weigh_block, block_of}
+use Rattle.session.specs.declared.Answered.{Answered}
+use Rattle.session.specs.Answer.{says}
+use Rattle.block.specs.Block.{reported, weigh_block, block_of}
 use Rattle.block.proofs.Weigh.{block_refused}
 use Rattle.ring.specs.Ring.{ring_ok, pushed}
 use Rattle.pump.specs.declared.Pumped.{Pumped}
@@ -26,6 +26,7 @@ use Rattle.pump.proofs.Weighing.{pump_refused_law}
 use Rattle.promises.specs.Calls.{State, Feed, block, pump, code, refusal, after, with_session, pumping}
 use Rattle.promises.specs.Feed.{Inside, AsBlock, PumpsBlock}
 use Rattle.promises.proofs.Fine.{both}
+use Rattle.std.specs.Prelude.{Err}
 
 module _ (x : State) (f : Feed) (n : ℕ) where
   abbrev frames : ℕ
@@ -44,12 +45,12 @@ module _ (x : State) (f : Feed) (n : ℕ) where
     weighs_alike = rw (inside, even, many)
 
     -- so it does what the block does
-    abbrev Alike : Pumped × List Float → BlockAnswered × List Float → Type 0
+    abbrev Alike : Pumped × List Float → Answered ℕ × List Float → Type 0
     Alike a b =
-        (code (says_pump a.0.answer) ≡ code (says_block b.0.answer))
+        (code (says_pump a.0.answer) ≡ code (says b.0.answer))
         × (a.0.session ≡ b.0.session)
         × (pumped_passes a.0.answer ≡ reported b.0.answer)
-        × (code (says_block b.0.answer) ≡ 0 → a.1 ≡ pushed (length f.store) f.store f.ring.tail b.1)
+        × (code (says b.0.answer) ≡ 0 → a.1 ≡ pushed (length f.store) f.store f.ring.tail b.1)
 
     alike : Alike (pumping x f n) (block_of x.session x.queue x.capture x.pool out)
     unfolding pump_of block_of block_into
@@ -64,17 +65,17 @@ module _ (x : State) (f : Feed) (n : ℕ) where
 
   -- where the session is not well formed both are refused with 1,
   module _ (e : well_formed x.session x.queue x.capture ≡ false) where
-    block_ill : weigh_block x.session x.queue x.capture x.pool [] ≡ Weighed.Refused Refusal.NotWellFormed
+    block_ill : weigh_block x.session x.queue x.capture x.pool [] ≡ Err Refusal.NotWellFormed
     unfolding weigh_block
     block_ill = sym (stop _ _ _ (ap not e))
 
-    pump_ill : weigh_pump x.session x.queue x.capture x.pool f.ring (length f.store) n ≡ Weighed.Refused Refusal.NotWellFormed
+    pump_ill : weigh_pump x.session x.queue x.capture x.pool f.ring (length f.store) n ≡ Err Refusal.NotWellFormed
     unfolding weigh_pump
     pump_ill = sym (stop _ _ _ (ap not e))
 
   -- and where it is, a ring that is not within its store is refused with 23
   pump_bad : well_formed x.session x.queue x.capture ≡ true → ring_ok (length f.store) f.ring ≡ false
-      → weigh_pump x.session x.queue x.capture x.pool f.ring (length f.store) n ≡ Weighed.Refused Refusal.BadRing
+      → weigh_pump x.session x.queue x.capture x.pool f.ring (length f.store) n ≡ Err Refusal.BadRing
   unfolding weigh_pump
   pump_bad e b = sym (skip _ _ _ _ (ap not e) (stop _ _ _ (ap not b)))
 
@@ -83,8 +84,8 @@ module _ (x : State) (f : Feed) (n : ℕ) where
     abbrev Pumps : Pumped × List Float → Type 0
     Pumps a = P (code (says_pump a.0.answer)) (with_session x a.0.session)
 
-    abbrev Blocks : BlockAnswered × List Float → Type 0
-    Blocks b = P (code (says_block b.0.answer)) (with_session x b.0.session)
+    abbrev Blocks : Answered ℕ × List Float → Type 0
+    Blocks b = P (code (says b.0.answer)) (with_session x b.0.session)
 
     either : (ring_ok (length f.store) f.ring ≡ true) ⊎ (ring_ok (length f.store) f.ring ≡ false)
         → (well_formed x.session x.queue x.capture ≡ true) ⊎ (well_formed x.session x.queue x.capture ≡ false) → P (refusal (pump f n) x) (after (pump f n) x)

@@ -25,8 +25,7 @@ use Rattle.session.specs.WellFormed.{well_formed}
 use Rattle.session.proofs.Parts.{parts}
 use Rattle.session.proofs.Ranged.{ranged}
 use Rattle.session.proofs.Refuse.{numbered, other, passes, refused_or_done}
-use Rattle.clips.specs.declared.LoadAnswered.{LoadAnswered}
-use Rattle.clips.specs.Answer.{says_load}
+use Rattle.session.specs.Answer.{says}
 use Rattle.clips.specs.Load.{start_for, weigh_load, load_of}
 use Rattle.clips.proofs.Retired.{retire_done, accepted}
 use Rattle.promises.specs.Calls.{State, with_session, retire, code, refusal, after}
@@ -57,7 +56,7 @@ module _ (x : State) (c : Clipped) where
   -- and so neither is answered
   answers : numbered crowded (weigh_load x.session x.queue x.capture x.pool c.samples c.kind c.rate) ≡ false → crowded (refusal (loading c) x) ≡ false
   unfolding load_of
-  answers e = refused_or_done {A = LoadAnswered × List Float} _ _ _ (λ z. crowded (code (says_load z.0.answer)) ≡ false) (λ k r. ap (numbered crowded) (sym r) ∙ e) (λ fine. refl)
+  answers e = refused_or_done {A = Answered Handle × List Float} _ _ _ (λ z. crowded (code (says z.0.answer)) ≡ false) (λ k r. ap (numbered crowded) (sym r) ∙ e) (λ fine. refl)
 
 -- no start in a pool of its range is nowhere
 somewhere : (s : Session) (q c : List ℕ) → well_formed s q c ≡ true → (n : ℕ) → n < s.settings.pool → n ≡ nowhere → ⊥
@@ -91,7 +90,7 @@ pub room_is_used_again : RoomAgain
 room_is_used_again x h c g e some few =
     let fine = retire_weighs h x e in
     let alive : live x.session.bank h ≡ true = (accepted x.session x.queue x.capture h fine).alive in
-    let done : after (retire h) x ≡ left x h c g alive some few = ap (λ (z : Answered). with_session x z.session) (retire_done x.session x.queue x.capture h fine) in
+    let done : after (retire h) x ≡ left x h c g alive some few = ap (λ (z : Answered (Unit {0})). with_session x z.session) (retire_done x.session x.queue x.capture h fine) in
     subst (λ (y : State). (refusal (loading c) y ≢ 8) × (refusal (loading c) y ≢ 10) × (start_for y.session c.samples ≤ (clip_of x.session.bank h).start)) (sym done) (
       λ (n : refusal (loading c) (left x h c g alive some few) ≡ 8). never (ap crowded (sym n) ∙ uncrowded x h c g alive some few),
       λ (n : refusal (loading c) (left x h c g alive some few) ≡ 10). never (ap crowded (sym n) ∙ uncrowded x h c g alive some few),

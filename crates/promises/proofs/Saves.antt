@@ -34,18 +34,17 @@ use Rattle.bank.proofs.Clauses.{bank_clip, live_has}
 use Rattle.bank.proofs.Handles.{live_given}
 use Rattle.bank.proofs.Claims.{song_has, stinger_has}
 use Rattle.session.specs.declared.Session.{Session}
-use Rattle.session.specs.declared.Weighed.{Weighed}
 use Rattle.session.specs.Session.{captured_now}
-use Rattle.session.specs.Answer.{Says, gives}
+use Rattle.session.specs.Answer.{Says, gives, says}
 use Rattle.session.specs.WellFormed.{well_formed}
 use Rattle.session.proofs.Parts.{parts}
 use Rattle.session.proofs.Ranged.{ranged}
 use Rattle.session.proofs.Refuse.{passed, gives_fine}
-use Rattle.control.specs.declared.StopAnswered.{StopAnswered}
-use Rattle.control.specs.Answer.{says_stop}
+use Rattle.session.specs.declared.Answered.{Answered}
 use Rattle.control.specs.Capture.{weigh_stop, stop_capture_of}
 use Rattle.control.proofs.Capture.{fine_room, stop_done}
 use Rattle.promises.specs.Tours.{slot_word, slot_words, clips_of, CaptureSaves}
+use Rattle.std.specs.Prelude.{Ok}
 
 -- ---- the session's own list
 
@@ -179,16 +178,16 @@ captured_fine s q c formed small =
     (omega arith, rw none at (all_fine (clips_of s.bank) c n 0 0 (rw none reads) (rw none listed) (rw none rises) (λ l. absurd (omega arith))))
 
 -- a stop that gives n records is of a well formed session, and they are all of its capture's
-stopped : (s : Session) (q c list : List ℕ) (n : ℕ) → says_stop (stop_capture_of s q c list).0.answer ≡ gives n
+stopped : (s : Session) (q c list : List ℕ) (n : ℕ) → says (stop_capture_of s q c list).0.answer ≡ gives n
     → (well_formed s q c ≡ true) × (records_of (take (n * 5) (stop_capture_of s q c list).1) ≡ rows_from c 0 (captured_now s.desk))
 unfolding stop_capture_of weigh_stop copied
 stopped s q c list n e =
     let m : ℕ = captured_now s.desk in
-    let fine : weigh_stop s q c list ≡ Weighed.Fine = gives_fine {A = StopAnswered × List ℕ} _ _ _ (λ a. says_stop a.0.answer) (λ k. refl) n e in
+    let fine : weigh_stop s q c list ≡ (Ok tt) = gives_fine {A = Answered ℕ × List ℕ} _ _ _ (λ a. says a.0.answer) (λ k. refl) n e in
     let formed : well_formed s q c ≡ true = not-false _ (passed _ _ _ fine).0 in
     let room = fine_room s q c list fine in
     let d = stop_done s q c list formed room.0 in
-    let k : n ≡ m = let g : ◌≡◌ {A = Says ℕ} (gives m) (gives n) = sym (ap (λ (a : StopAnswered × List ℕ). says_stop a.0.answer) d) ∙ e in cc in
+    let k : n ≡ m = let g : ◌≡◌ {A = Says ℕ} (gives m) (gives n) = sym (ap (λ (a : Answered ℕ × List ℕ). says a.0.answer) d) ∙ e in cc in
     (formed, rw (k, d, take_at (take (m * 5) c) (drop (m * 5) list) (m * 5) (length-take-le (m * 5) c room.1)) (records_take c m room.1))
 
 pub capture_saves : CaptureSaves

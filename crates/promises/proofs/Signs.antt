@@ -35,7 +35,7 @@ use Rattle.stage.specs.Sound.{with_tail, rendered_of}
 use Rattle.stage.specs.Stage.{frame_of}
 use Rattle.stage.specs.Machine.{FrameMade, machine_of, output_of}
 use Rattle.session.specs.declared.Session.{Session}
-use Rattle.block.specs.declared.BlockAnswered.{BlockAnswered}
+use Rattle.session.specs.declared.Answered.{Answered}
 use Rattle.block.specs.Block.{ran_of}
 use Rattle.block.proofs.Weigh.{block_done_law}
 use Rattle.promises.specs.Modes.{magnitude}
@@ -261,6 +261,6 @@ never_minus_zero =
     record {
       sum = λ view t. ((sum_fine view t).0.1, (sum_fine view t).1.1);
       samples = λ x out e.
-          subst (λ (z : BlockAnswered × List Float). Each (λ v. minus_zero v ≡ false) z.1) (sym (block_done_law x.session x.queue x.capture x.pool out (block_accepts x out e)))
+          subst (λ (z : Answered ℕ × List Float). Each (λ v. minus_zero v ≡ false) z.1) (sym (block_done_law x.session x.queue x.capture x.pool out (block_accepts x out e)))
           (output_fine (ran_of x.session x.queue x.pool (frames_of out)).made (ran_fine x.session x.queue x.pool (frames_of out)));
     }

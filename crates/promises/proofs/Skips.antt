@@ -4,19 +4,19 @@ use mathlib.Core.Bool.{Bool, true, false}
 use lib.Dec.{eqb}
 use Rattle.timeline.specs.declared.Row.{Row}
 use Rattle.session.specs.declared.Refusal.{Refusal}
-use Rattle.session.specs.declared.Weighed.{Weighed}
 use Rattle.session.specs.Refusal.{number_of, first}
 use Rattle.session.specs.Session.{turned_away}
 use Rattle.session.proofs.Refuse.{unless_refused}
 use Rattle.submission.specs.Replay.{Replaying, weigh_replayed, skipped_by, replay_row}
 use Rattle.promises.specs.Stale.{skipped}
+use Rattle.std.specs.Prelude.{Result, Err}
 
 -- it is refused with something else than 15
-pub data Otherwise (w : Weighed) : Type 0 where
-  by : (k : Refusal) → w ≡ Weighed.Refused k → eqb (number_of k) 15 ≡ false → Otherwise w
+pub data Otherwise (w : Result (Unit {0}) Refusal) : Type 0 where
+  by : (k : Refusal) → w ≡ Err k → eqb (number_of k) 15 ≡ false → Otherwise w
 
 -- also where a test for something else than 15 comes before
-pub otherwise_after : (t : Bool) (k : Refusal) (rest : Weighed) → eqb (number_of k) 15 ≡ false → Otherwise rest → Otherwise (first t k rest)
+pub otherwise_after : (t : Bool) (k : Refusal) (rest : Result (Unit {0}) Refusal) → eqb (number_of k) 15 ≡ false → Otherwise rest → Otherwise (first t k rest)
 unfolding first
 otherwise_after true k rest e o = by k refl e
 otherwise_after false k rest e o = o

@@ -25,11 +25,9 @@ use Rattle.session.specs.declared.Answered.{Answered}
 use Rattle.session.specs.Session.{with_stage, extent_now}
 use Rattle.session.specs.WellFormed.{well_formed}
 use Rattle.session.proofs.Refuse.{unless_both}
-use Rattle.block.specs.declared.BlockAnswered.{BlockAnswered}
 use Rattle.block.specs.Block.{block_of}
 use Rattle.block.proofs.Weigh.{accepted}
 use Rattle.block.proofs.Kept.{drain_holds, block_holds}
-use Rattle.clips.specs.declared.LoadAnswered.{LoadAnswered}
 use Rattle.clips.specs.Open.{stage_at, open_of}
 use Rattle.clips.specs.Load.{load_of}
 use Rattle.clips.specs.Retire.{retire_of}
@@ -48,11 +46,11 @@ use Rattle.promises.proofs.Banked.{Changes, changes}
 -- loading and retiring leave the stage
 load_stage : (s : Session) (q c : List ℕ) (pool samples : List Float) (kind : Kind) (rate : ℕ) → (load_of s q c pool samples kind rate).0.session.stage ≡ s.stage
 unfolding load_of
-load_stage s q c pool samples kind rate = unless_both {A = LoadAnswered × List Float} _ _ _ (λ z. z.0.session.stage ≡ s.stage) (λ k. refl) (λ fine. refl)
+load_stage s q c pool samples kind rate = unless_both {A = Answered Handle × List Float} _ _ _ (λ z. z.0.session.stage ≡ s.stage) (λ k. refl) (λ fine. refl)
 
 retire_stage : (s : Session) (q c : List ℕ) (h : Handle) → (retire_of s q c h).session.stage ≡ s.stage
 unfolding retire_of
-retire_stage s q c h = unless_both {A = Answered} _ _ _ (λ z. z.session.stage ≡ s.stage) (λ k. refl) (λ fine. refl)
+retire_stage s q c h = unless_both {A = Answered (Unit {0})} _ _ _ (λ z. z.session.stage ≡ s.stage) (λ k. refl) (λ fine. refl)
 
 abbrev heart_stage : Settings × Bank × Stage → Stage
 heart_stage r = r.2
@@ -82,7 +80,7 @@ module _ (P : Settings → Bank → Stage → Type 0) where
       -- applying keeps it,
       apply_has : (y : PerformanceSnapshot) → Has (apply_of s q c y).session
       unfolding apply_of
-      apply_has y = unless_both {A = Answered} _ _ _ (λ z. Has z.session) (λ k. p) (λ fine. stays.applies s y p)
+      apply_has y = unless_both {A = Answered (Unit {0})} _ _ _ (λ z. Has z.session) (λ k. p) (λ fine. stays.applies s y p)
 
       -- and a block's frames and commands do
       module _ (w : well_formed s q c ≡ true) (places : length s.stage.sound.voices.table ≡ 16) (pool : List Float) where
@@ -97,7 +95,7 @@ module _ (P : Settings → Bank → Stage → Type 0) where
         block_has : (out : List Float) → Has (block_of s q c pool out).0.session
         unfolding block_of
         block_has out =
-            unless_both {A = BlockAnswered × List Float} _ _ _ (λ z. Has z.0.session) (λ k. p)
+            unless_both {A = Answered ℕ × List Float} _ _ _ (λ z. Has z.0.session) (λ k. p)
             (λ fine. block_holds s q c pool w places (HasAt s) framed executed (frames_of out) (accepted s q c pool out fine).clock p)
 
         drain_has : HasAt s (drain (machine_of s.settings (view_of pool s.bank)) s.stage (queue q s.queued)).at.core
@@ -120,7 +118,7 @@ module _ (P : Settings → Bank → Stage → Type 0) where
 
     open_has : (x : Settings) (q c : List ℕ) (pool samples : List Float) (rate : ℕ) (extent : SongFrame) → Has (open_of x q c pool samples rate extent).0.session
     unfolding open_of
-    open_has x q c pool samples rate extent = unless_both {A = LoadAnswered × List Float} _ _ _ (λ z. Has z.0.session) (λ k. stays.opens _ _ _) (λ fine. stays.opens _ _ _)
+    open_has x q c pool samples rate extent = unless_both {A = Answered Handle × List Float} _ _ _ (λ z. Has z.0.session) (λ k. stays.opens _ _ _) (λ fine. stays.opens _ _ _)
 
     pub reached_has : (x : State) → Reached x → P x.session.settings x.session.bank x.session.stage
     reached_has x (at_opening o e) = open_has o.settings o.queue o.capture o.pool o.samples o.rate o.extent

@@ -36,7 +36,7 @@ use Rattle.block.specs.Block.{ran_of}
 use Rattle.block.proofs.Pools.{SameClaim, SameTail, views_agree_on}
 use Rattle.clips.proofs.Held.{tail_claim, all_held}
 use Rattle.clips.proofs.Retired.{retired_spent}
-use Rattle.submission.specs.declared.ReplayAnswered.{ReplayAnswered}
+use Rattle.session.specs.declared.Answered.{Answered}
 use Rattle.submission.specs.Weigh.{weigh_command}
 use Rattle.submission.specs.Submit.{weigh_submit}
 use Rattle.submission.specs.Order.{waiting}
@@ -50,6 +50,7 @@ use Rattle.promises.proofs.Skips.{Otherwise, by, otherwise_after, row_skipped}
 use Rattle.promises.proofs.Fine.{retire_weighs, weighed_number, submit_says}
 use Rattle.promises.proofs.Banked.{spent_stays, kept_by_all}
 use Rattle.promises.proofs.Retire.{stale_says}
+use Rattle.submission.specs.declared.Report.{Report}
 
 -- ---- it is so, and stays so
 
@@ -106,8 +107,8 @@ through : (x : State) (list : List ℕ) → Good x
     → let z : Replaying = replayed x.session x.queue list (length list / 5) in after (replay list) x ≡ state z.session z.queue x.capture x.pool
 unfolding replay_of
 through x list g =
-    ap (λ (z : ReplayAnswered × List ℕ). state z.0.session z.1 x.capture x.pool)
-    (unless_fine {A = ReplayAnswered × List ℕ} (weigh_only x.session x.queue x.capture) _ _ (only_fine x.session x.queue x.capture g.formed))
+    ap (λ (z : Answered Report × List ℕ). state z.0.session z.1 x.capture x.pool)
+    (unless_fine {A = Answered Report × List ℕ} (weigh_only x.session x.queue x.capture) _ _ (only_fine x.session x.queue x.capture g.formed))
 
 replaying : (h : Handle) (x : State) (list : List ℕ) (j : ℕ) → Stale h x → j < length list / 5 → claims h (claim_of (read_of (row_at list j))) ≡ true
     → replayed x.session x.queue list (suc j) ≡ skipped (replayed x.session x.queue list j)

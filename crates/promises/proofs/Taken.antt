@@ -28,20 +28,15 @@ use Rattle.bank.specs.Recording.{view_of}
 use Rattle.stage.specs.declared.Settings.{Settings}
 use Rattle.stage.specs.Machine.{machine_of}
 use Rattle.session.specs.declared.Session.{Session}
-use Rattle.session.specs.declared.Weighed.{Weighed}
 use Rattle.session.specs.declared.Answered.{Answered}
 use Rattle.session.specs.WellFormed.{well_formed}
 use Rattle.session.proofs.Refuse.{passed, unless_both}
 use Rattle.session.proofs.Parts.{Parts, parts}
-use Rattle.block.specs.declared.BlockAnswered.{BlockAnswered}
 use Rattle.block.specs.Block.{ran_of, block_of}
 use Rattle.block.proofs.Queue.{queue_ran}
-use Rattle.clips.specs.declared.LoadAnswered.{LoadAnswered}
 use Rattle.clips.specs.Open.{open_of}
 use Rattle.clips.specs.Load.{load_of}
 use Rattle.clips.specs.Retire.{retire_of}
-use Rattle.submission.specs.declared.SubmitAnswered.{SubmitAnswered}
-use Rattle.submission.specs.declared.ReplayAnswered.{ReplayAnswered}
 use Rattle.submission.specs.Weigh.{capture_room}
 use Rattle.submission.specs.Submit.{submit_of}
 use Rattle.submission.specs.Transition.{cleared_queue, cleared, weigh_transition, transition_of}
@@ -52,7 +47,6 @@ use Rattle.submission.proofs.Kept.{replayed_well}
 use Rattle.submission.proofs.Left.{Takes, turned_away_law, submit_fits, submit_takes, transition_fine, transition_takes}
 use Rattle.submission.proofs.Reported.{refused_row, taken_row}
 use Rattle.control.specs.declared.PerformanceSnapshot.{PerformanceSnapshot}
-use Rattle.control.specs.declared.StopAnswered.{StopAnswered}
 use Rattle.control.specs.Capture.{start_capture_of, stop_capture_of}
 use Rattle.control.specs.Snapshot.{apply_of}
 use Rattle.control.proofs.Kept.{snapshot_leaves, metrics_leave}
@@ -63,6 +57,9 @@ use Rattle.promises.proofs.Fine.{accepts}
 use Rattle.promises.proofs.Kept.{reached_good}
 use Rattle.promises.proofs.Exchanged.{submit_accepts}
 use Rattle.promises.proofs.Refused.{refused}
+use Rattle.std.specs.Prelude.{Result, Ok, Err}
+use Rattle.submission.specs.declared.Report.{Report}
+use Rattle.session.specs.declared.Refusal.{Refusal}
 
 module _ (P : Command → Type 0) (taken-has : (s : Session) (q : List ℕ) (spare : Bool) (y : Command) → Fits s q spare y → P y) where
   abbrev Has : QueueRecord → Type 0
@@ -76,24 +73,24 @@ module _ (P : Command → Type 0) (taken-has : (s : Session) (q : List ℕ) (spa
     -- loading, retiring and applying leave both,
     load_all : (pool samples : List Float) (kind : Kind) (rate : ℕ) → All (load_of s q c pool samples kind rate).0.session q c
     unfolding load_of
-    load_all pool samples kind rate = unless_both {A = LoadAnswered × List Float} _ _ _ (λ z. All z.0.session q c) (λ k. p) (λ fine. p)
+    load_all pool samples kind rate = unless_both {A = Answered Handle × List Float} _ _ _ (λ z. All z.0.session q c) (λ k. p) (λ fine. p)
 
     retire_all : (h : Handle) → All (retire_of s q c h).session q c
     unfolding retire_of
-    retire_all h = unless_both {A = Answered} _ _ _ (λ z. All z.session q c) (λ k. p) (λ fine. p)
+    retire_all h = unless_both {A = Answered (Unit {0})} _ _ _ (λ z. All z.session q c) (λ k. p) (λ fine. p)
 
     apply_all : (y : PerformanceSnapshot) → All (apply_of s q c y).session q c
     unfolding apply_of
-    apply_all y = unless_both {A = Answered} _ _ _ (λ z. All z.session q c) (λ k. p) (λ fine. p)
+    apply_all y = unless_both {A = Answered (Unit {0})} _ _ _ (λ z. All z.session q c) (λ k. p) (λ fine. p)
 
     -- a capture starts empty and stops with none,
     start_all : All (start_capture_of s q c).session q c
     unfolding start_capture_of
-    start_all = unless_both {A = Answered} _ _ _ (λ z. All z.session q c) (λ k. p) (λ fine. (p.0, tt))
+    start_all = unless_both {A = Answered (Unit {0})} _ _ _ (λ z. All z.session q c) (λ k. p) (λ fine. (p.0, tt))
 
     stop_all : (list : List ℕ) → All (stop_capture_of s q c list).0.session q c
     unfolding stop_capture_of
-    stop_all list = unless_both {A = StopAnswered × List ℕ} _ _ _ (λ z. All z.0.session q c) (λ k. p) (λ fine. (p.0, tt))
+    stop_all list = unless_both {A = Answered ℕ × List ℕ} _ _ _ (λ z. All z.0.session q c) (λ k. p) (λ fine. (p.0, tt))
 
     -- and a block leaves what it does not execute
     ran_all : (pool : List Float) (n : ℕ) → Each Has (ran_of s q pool n).at.queue
@@ -104,12 +101,12 @@ module _ (P : Command → Type 0) (taken-has : (s : Session) (q : List ℕ) (spa
     block_all : (pool out : List Float) → All (block_of s q c pool out).0.session q c
     unfolding block_of
     block_all pool out =
-        unless_both {A = BlockAnswered × List Float} _ _ _ (λ z. All z.0.session q c) (λ k. p)
+        unless_both {A = Answered ℕ × List Float} _ _ _ (λ z. All z.0.session q c) (λ k. p)
         (λ fine. (rw (queue_ran s q pool (frames_of out)) (ran_all pool (frames_of out)), p.1))
 
     -- ---- a command that is taken
 
-    takes_all : (r : QueueRecord) (on : Bool) (queued captured : List QueueRecord) (z : SubmitAnswered × List ℕ × List ℕ) → Takes r on queued captured z
+    takes_all : (r : QueueRecord) (on : Bool) (queued captured : List QueueRecord) (z : Answered ℕ × List ℕ × List ℕ) → Takes r on queued captured z
         → Has r → Each Has queued → Each Has captured → All z.0.session z.1 z.2
     takes_all r on queued captured z k h e f = (rw k.waits (each_insert Has frame r queued h e), rw k.records (records on))
       where
@@ -122,7 +119,7 @@ module _ (P : Command → Type 0) (taken-has : (s : Session) (q : List ℕ) (spa
     submit_all y at t ok =
         takes_all _ _ _ _ (submit_of s q c y at) (submit_takes s q c y at ok t) (taken-has s q (capture_room s) (command_of y) (submit_fits s q c y at ok)) p.0 p.1
 
-    transition_has : (f : SongFrame) → weigh_transition s q c f ≡ Weighed.Fine → P (Command.Transition f)
+    transition_has : (f : SongFrame) → weigh_transition s q c f ≡ Ok tt → P (Command.Transition f)
     unfolding weigh_transition
     transition_has f e =
         let z : Session = cleared s q c in
@@ -146,16 +143,16 @@ module _ (P : Command → Type 0) (taken-has : (s : Session) (q : List ℕ) (spa
     row_recorded z x =
         unless_both {A = Replaying} _ _ _ (λ y. recorded y.session c ≡ recorded z.session c) (λ k. ap (λ (s : Session). recorded s c) (turned_away_law k z.session)) (λ fine. refl)
 
-    row_has : (z : Replaying) (x : Row) → weigh_replayed z.session z.queue x ≡ Weighed.Fine → P (read_of x)
+    row_has : (z : Replaying) (x : Row) → weigh_replayed z.session z.queue x ≡ Ok tt → P (read_of x)
     unfolding weigh_replayed
     row_has z x e = taken-has z.session z.queue true (read_of x) (fine_fits z.session z.queue true (read_of x) (passed _ _ _ e).1)
 
     row_all : (z : Replaying) (x : Row) → Parts z.session z.queue c → AllAt z → AllAt (replay_row z x)
     row_all z x parts p = (go (weigh_replayed z.session z.queue x) refl, rw (row_recorded z x) p.1)
       where
-        go : (w : Weighed) → weigh_replayed z.session z.queue x ≡ w → Each Has (waiting (replay_row z x).session (replay_row z x).queue)
-        go Weighed.Fine e = rw (taken_row z x c parts e) (each_insert Has frame _ (waiting z.session z.queue) (row_has z x e) p.0)
-        go (Weighed.Refused k) e = let r = refused_row z x k e in rw (r.0, r.1) p.0
+        go : (w : Result (Unit {0}) Refusal) → weigh_replayed z.session z.queue x ≡ w → Each Has (waiting (replay_row z x).session (replay_row z x).queue)
+        go (Ok tt) e = rw (taken_row z x c parts e) (each_insert Has frame _ (waiting z.session z.queue) (row_has z x e) p.0)
+        go (Err k) e = let r = refused_row z x k e in rw (r.0, r.1) p.0
 
     module _ (s : Session) (q list : List ℕ) (e : well_formed s q c ≡ true) (p : All s q c) where
       replayed_all : (n : ℕ) → AllAt (replayed s q list n)
@@ -165,7 +162,7 @@ module _ (P : Command → Type 0) (taken-has : (s : Session) (q : List ℕ) (spa
 
       replay_all : All (replay_of s q c list).0.session (replay_of s q c list).1 c
       unfolding replay_of
-      replay_all = unless_both {A = ReplayAnswered × List ℕ} _ _ _ (λ z. All z.0.session z.1 c) (λ k. p) (λ fine. replayed_all (length list / 5))
+      replay_all = unless_both {A = Answered Report × List ℕ} _ _ _ (λ z. All z.0.session z.1 c) (λ k. p) (λ fine. replayed_all (length list / 5))
 
   -- ---- every call
 
@@ -200,7 +197,7 @@ module _ (P : Command → Type 0) (taken-has : (s : Session) (q : List ℕ) (spa
   -- opening queues and captures nothing
   open_all : (x : Settings) (q c : List ℕ) (pool samples : List Float) (rate : ℕ) (extent : SongFrame) → All (open_of x q c pool samples rate extent).0.session q c
   unfolding open_of
-  open_all x q c pool samples rate extent = unless_both {A = LoadAnswered × List Float} _ _ _ (λ z. All z.0.session q c) (λ k. (tt, tt)) (λ fine. (tt, tt))
+  open_all x q c pool samples rate extent = unless_both {A = Answered Handle × List Float} _ _ _ (λ z. All z.0.session q c) (λ k. (tt, tt)) (λ fine. (tt, tt))
 
   pub reached_all : (x : State) → Reached x → AllOf x
   reached_all x (at_opening o e) = open_all o.settings o.queue o.capture o.pool o.samples o.rate o.extent

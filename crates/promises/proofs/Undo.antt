@@ -18,7 +18,7 @@ use Rattle.promises.proofs.Fine.{zero_fine, weighed_number, says_weighed}
 -- what applying answers is what it weighs
 apply_says : (t : PerformanceSnapshot) (x : State) → refusal (apply t) x ≡ weighed_number (weigh_apply x.session x.queue x.capture t)
 unfolding apply_of
-apply_says t x = says_weighed {A = Answered} _ _ _ (λ a. code (says a.answer)) (λ k. refl) refl
+apply_says t x = says_weighed {A = Answered (Unit {0})} _ _ _ (λ a. code (says a.answer)) (λ k. refl) refl
 
 pub answers_alike : AnswersAlike
 answers_alike s t x =
@@ -27,15 +27,15 @@ answers_alike s t x =
 -- a snapshot leaves everything, or is accepted
 left_or_accepted : (s : PerformanceSnapshot) (x : State) → (after (apply s) x ≡ x) ⊎ (refusal (apply s) x ≡ 0)
 unfolding apply_of
-left_or_accepted s x = unless_both {A = Answered} _ _ _ (λ a. (with_session x a.session ≡ x) ⊎ (code (says a.answer) ≡ 0)) (λ k. inl refl) (λ fine. inr refl)
+left_or_accepted s x = unless_both {A = Answered (Unit {0})} _ _ _ (λ a. (with_session x a.session ≡ x) ⊎ (code (says a.answer) ≡ 0)) (λ k. inl refl) (λ fine. inr refl)
 
 -- one that is accepted sets the stage
 sets : (t : PerformanceSnapshot) (x : State) → refusal (apply t) x ≡ 0
     → (after (apply t) x).session ≡ with_stage x.session (stage_by (extent_now x.session) t x.session.stage) x.session.queued
 unfolding apply_of
 sets t x r =
-    ap (λ (a : Answered). a.session)
-    (apply_done x.session x.queue x.capture t (zero_fine {A = Answered} _ _ _ (λ a. code (says a.answer)) (λ k. refl) r))
+    ap (λ (a : Answered (Unit {0})). a.session)
+    (apply_done x.session x.queue x.capture t (zero_fine {A = Answered (Unit {0})} _ _ _ (λ a. code (says a.answer)) (λ k. refl) r))
 
 -- all that another could have changed, but for a loop of its own that does not fit
 pub last_applied : LastApplied

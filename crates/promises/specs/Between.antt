@@ -4,8 +4,7 @@ use Rattle.std.specs.Prelude.{◌≡◌, ◌≢◌, List, ℕ, Float}
 use Rattle.counts.specs.declared.Handle.{Handle}
 use Rattle.bank.specs.declared.Kind.{Kind}
 use Rattle.session.specs.Answer.{Says, says}
-use Rattle.block.specs.Block.{says_block, block_of}
-use Rattle.clips.specs.Answer.{says_load}
+use Rattle.block.specs.Block.{block_of}
 use Rattle.clips.specs.Load.{load_of}
 use Rattle.clips.specs.Retire.{retire_of}
 use Rattle.promises.specs.Calls.{State, Call, load, retire, block, refusal, after, out_of}
@@ -13,11 +12,11 @@ use Rattle.promises.specs.Kept.{Good}
 
 -- what a block says: its passes, or the refusal's number
 abbrev pub block_says : List Float → State → Says ℕ
-block_says out x = says_block (block_of x.session x.queue x.capture x.pool out).0.answer
+block_says out x = says (block_of x.session x.queue x.capture x.pool out).0.answer
 
 -- what a load says: its handle, or the refusal's number
 abbrev pub load_says : List Float → Kind → ℕ → State → Says Handle
-load_says samples kind rate x = says_load (load_of x.session x.queue x.capture x.pool samples kind rate).0.answer
+load_says samples kind rate x = says (load_of x.session x.queue x.capture x.pool samples kind rate).0.answer
 
 -- and a retirement: that it is done, or the refusal's number
 abbrev pub retire_says : Handle → State → Says (Unit {0})

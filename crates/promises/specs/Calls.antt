@@ -9,20 +9,17 @@ use Rattle.bank.specs.declared.Kind.{Kind}
 use Rattle.stage.specs.declared.Settings.{Settings}
 use Rattle.session.specs.declared.Session.{Session}
 use Rattle.session.specs.Answer.{Says, refused, gives, says}
-use Rattle.block.specs.Block.{says_block, reported, block_of}
+use Rattle.block.specs.Block.{reported, block_of}
 use Rattle.ring.specs.declared.SampleRing.{SampleRing}
 use Rattle.pump.specs.declared.Pumped.{Pumped}
 use Rattle.pump.specs.Pump.{says_pump, pump_of}
-use Rattle.clips.specs.Answer.{says_load}
 use Rattle.clips.specs.Open.{open_of}
 use Rattle.clips.specs.Load.{load_of}
 use Rattle.clips.specs.Retire.{retire_of}
-use Rattle.submission.specs.Answer.{says_submit, says_replay}
 use Rattle.submission.specs.Submit.{submit_of}
 use Rattle.submission.specs.Transition.{transition_of}
 use Rattle.submission.specs.Replay.{replay_of}
 use Rattle.control.specs.declared.PerformanceSnapshot.{PerformanceSnapshot}
-use Rattle.control.specs.Answer.{says_stop, says_snapshot, says_metrics}
 use Rattle.control.specs.Capture.{start_capture_of, stop_capture_of}
 use Rattle.control.specs.Snapshot.{snapshot_of, apply_of}
 use Rattle.control.specs.Metrics.{metrics_of}
@@ -75,19 +72,19 @@ pumping x f n = pump_of x.session x.queue x.capture x.pool f.ring f.store n
 abbrev pub step : Call → State → ℕ × State
 step (load samples kind rate) x =
     let o = load_of x.session x.queue x.capture x.pool samples kind rate in
-    (code (says_load o.0.answer), state o.0.session x.queue x.capture o.1)
+    (code (says o.0.answer), state o.0.session x.queue x.capture o.1)
 step (retire h) x =
     let o = retire_of x.session x.queue x.capture h in
     (code (says o.answer), with_session x o.session)
 step (submit y at) x =
     let o = submit_of x.session x.queue x.capture y at in
-    (code (says_submit o.0.answer), state o.0.session o.1 o.2 x.pool)
+    (code (says o.0.answer), state o.0.session o.1 o.2 x.pool)
 step (transition f at) x =
     let o = transition_of x.session x.queue x.capture f at in
-    (code (says_submit o.0.answer), state o.0.session o.1 o.2 x.pool)
+    (code (says o.0.answer), state o.0.session o.1 o.2 x.pool)
 step (block out) x =
     let o = block_of x.session x.queue x.capture x.pool out in
-    (code (says_block o.0.answer), with_session x o.0.session)
+    (code (says o.0.answer), with_session x o.0.session)
 step (pump f n) x =
     let o = pumping x f n in
     (code (says_pump o.0.answer), with_session x o.0.session)
@@ -96,19 +93,19 @@ step start_capture x =
     (code (says o.answer), with_session x o.session)
 step (stop_capture list) x =
     let o = stop_capture_of x.session x.queue x.capture list in
-    (code (says_stop o.0.answer), with_session x o.0.session)
+    (code (says o.0.answer), with_session x o.0.session)
 step (replay list) x =
     let o = replay_of x.session x.queue x.capture list in
-    (code (says_replay o.0.answer), state o.0.session o.1 x.capture x.pool)
+    (code (says o.0.answer), state o.0.session o.1 x.capture x.pool)
 step snapshot x =
     let o = snapshot_of x.session x.queue x.capture in
-    (code (says_snapshot o.answer), with_session x o.session)
+    (code (says o.answer), with_session x o.session)
 step (apply y) x =
     let o = apply_of x.session x.queue x.capture y in
     (code (says o.answer), with_session x o.session)
 step metrics x =
     let o = metrics_of x.session x.queue x.capture in
-    (code (says_metrics o.answer), with_session x o.session)
+    (code (says o.answer), with_session x o.session)
 
 -- the number of its refusal alone
 abbrev pub refusal : Call → State → ℕ
@@ -174,7 +171,7 @@ pub record Opening : Type 0 where
 abbrev pub opened : Opening → ℕ × State
 opened o =
     let r = open_of o.settings o.queue o.capture o.pool o.samples o.rate o.extent in
-    (code (says_load r.0.answer), state r.0.session o.queue o.capture r.1)
+    (code (says r.0.answer), state r.0.session o.queue o.capture r.1)
 
 -- in the definitions numbers have no width and floats no format: what a call is given is of its type
 abbrev pub Given : Call → Type 0

@@ -1,17 +1,18 @@
 -- 'Samples leaving the ring must be the session's own in order, with silence only in between. Demand 3's cut then holds for what is pumped.' Definitions only.
-use Rattle.std.specs.Prelude.{◌≡◌, true, ◌≢◌, List, [], ◌∷◌, ◌++◌, ℕ, ◌+◌, ◌-◌, ◌*◌, ◌%◌, length, take, replicate, Float}
+use Rattle.std.specs.Prelude.{◌≡◌, true, ◌≢◌, List, [], ◌∷◌, ◌++◌, ℕ, ◌+◌, ◌-◌, ◌*◌, ◌%◌, length, take, replicate, Float, Result, Ok, Err}
 use Rattle.ramp.specs.Number.{zero32}
 use Rattle.block.specs.Block.{ran_of, block_done}
-use Rattle.ring.specs.declared.DrainAnswer.{DrainAnswer}
 use Rattle.ring.specs.declared.Drained.{Drained}
 use Rattle.ring.specs.Ring.{ring_ok, held_of, waiting, pushed}
-use Rattle.ring.specs.Drain.{says_drain, drain_of}
-use Rattle.pump.specs.declared.PumpAnswer.{PumpAnswer}
+use Rattle.session.specs.Answer.{says}
+use Rattle.ring.specs.Drain.{drain_of}
 use Rattle.pump.specs.Pump.{pumped_frames, pumped_passes, frames_made}
 use Rattle.host.specs.Answers.{says_by}
 use Rattle.host.specs.Calls.{drain_host}
 use Rattle.promises.specs.Calls.{State, Feed, block, pump, code, refusal, after, out_of, report_of, pumping, feed_of}
 use Rattle.promises.specs.Kept.{Good}
+use Rattle.pump.specs.declared.Pushed.{Pushed}
+use Rattle.session.specs.declared.Refusal.{Refusal}
 
 -- a store of 3 to 65,536 samples, head and tail inside it
 abbrev pub Inside : Feed → Type 0
@@ -24,9 +25,9 @@ waits f = waiting f.ring f.store
 -- ---- a pump
 
 -- the samples that it makes: those of a block of the frames that it answers
-abbrev pub makes : State → PumpAnswer → List Float
-makes x (PumpAnswer.Pumped n p) = (block_done x.session (ran_of x.session x.queue x.pool n)).1
-makes x (PumpAnswer.Refused k) = []
+abbrev pub makes : State → Result Pushed Refusal → List Float
+makes x (Ok m) = (block_done x.session (ran_of x.session x.queue x.pool m.frames)).1
+makes x (Err k) = []
 
 -- it is a block of the frames made: the same refusal, session and passes, and the samples are pushed from the tail on
 pub record AsBlock (x : State) (f : Feed) (n : ℕ) (out : List Float) : Type 0 where
@@ -57,9 +58,9 @@ abbrev pub draining : Feed → List Float → Drained × List Float
 draining f out = drain_of f.ring f.store out
 
 -- the frames that its answer tells; a refused one takes none
-abbrev pub drained_frames : DrainAnswer → ℕ
-drained_frames (DrainAnswer.Drained n) = n
-drained_frames (DrainAnswer.Refused k) = 0
+abbrev pub drained_frames : Result ℕ Refusal → ℕ
+drained_frames (Ok n) = n
+drained_frames (Err k) = 0
 
 -- the ring after it, over the same store
 abbrev pub drained_feed : Feed → List Float → Feed
@@ -71,7 +72,7 @@ takes f out = take (drained_frames (draining f out).0.answer * 2) (draining f ou
 
 -- the rest of its block is silence
 pub record OnlySilence (f : Feed) (out : List Float) : Type 0 where
-  pub accepted : code (says_drain (draining f out).0.answer) ≡ 0
+  pub accepted : code (says (draining f out).0.answer) ≡ 0
   pub whole : length (takes f out) ≡ drained_frames (draining f out).0.answer * 2
   pub silence : (draining f out).1 ≡ takes f out ++ replicate (length out - drained_frames (draining f out).0.answer * 2) zero32
 
@@ -80,11 +81,11 @@ Silence = (f : Feed) (out : List Float) → Inside f → OnlySilence f out
 
 -- a refused one leaves ring and block as they were
 abbrev pub DrainRefused : Type 0
-DrainRefused = (f : Feed) (out : List Float) → code (says_drain (draining f out).0.answer) ≢ 0 → (drained_feed f out ≡ f) × ((draining f out).1 ≡ out)
+DrainRefused = (f : Feed) (out : List Float) → code (says (draining f out).0.answer) ≢ 0 → (drained_feed f out ≡ f) × ((draining f out).1 ≡ out)
 
 -- an exported one says, leaves and fills what it does
 pub record HostDrain (f : Feed) (out : List Float) : Type 0 where
-  pub answer : let o = (drain_host f.ring f.store out).0 in says_by o.refusal o.frames ≡ says_drain (draining f out).0.answer
+  pub answer : let o = (drain_host f.ring f.store out).0 in says_by o.refusal o.frames ≡ says (draining f out).0.answer
   pub ring : (drain_host f.ring f.store out).0.ring ≡ (draining f out).0.ring
   pub block : (drain_host f.ring f.store out).1 ≡ (draining f out).1
 

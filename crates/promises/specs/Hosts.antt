@@ -4,17 +4,14 @@ use Rattle.std.specs.Prelude.{◌≡◌, ◌≢◌, Bool, true, false, ◌&&◌,
 use Rattle.counts.specs.declared.SongFrame.{SongFrame}
 use Rattle.counts.specs.declared.Handle.{Handle}
 use Rattle.session.specs.Answer.{says}
-use Rattle.clips.specs.Answer.{says_load}
 use Rattle.clips.specs.Open.{open_of}
 use Rattle.clips.specs.Load.{load_of}
 use Rattle.clips.specs.Retire.{retire_of}
-use Rattle.submission.specs.Answer.{says_submit, says_replay}
 use Rattle.submission.specs.Submit.{submit_of}
 use Rattle.submission.specs.Transition.{transition_of}
 use Rattle.submission.specs.Replay.{replay_of}
-use Rattle.block.specs.Block.{says_block, block_of}
+use Rattle.block.specs.Block.{block_of}
 use Rattle.pump.specs.Pump.{says_pump}
-use Rattle.control.specs.Answer.{says_stop, says_snapshot, says_metrics}
 use Rattle.control.specs.Capture.{start_capture_of, stop_capture_of}
 use Rattle.control.specs.Snapshot as control
 use Rattle.control.specs.Metrics.{metrics_of}
@@ -187,18 +184,18 @@ pub data HostReached : HostState → Type 0 where
 abbrev pub SameAnswer : HostCall → HostState → Type 0
 SameAnswer (load samples kind extent rate) x =
     let o = load_host x.session x.queue x.capture x.pool samples kind extent rate in
-    says_by o.0.refusal o.0.handle ≡ says_load (load_of (session_of x.session) x.queue x.capture x.pool samples (kind_of kind extent) rate).0.answer
+    says_by o.0.refusal o.0.handle ≡ says (load_of (session_of x.session) x.queue x.capture x.pool samples (kind_of kind extent) rate).0.answer
 SameAnswer (retire h) x =
     says_by (retire_host x.session x.queue x.capture h).refusal tt ≡ says (retire_of (session_of x.session) x.queue x.capture h).answer
 SameAnswer (submit y at) x =
     let o = submit_host x.session x.queue x.capture y at in
-    says_by o.0.refusal o.0.number ≡ says_submit (submit_of (session_of x.session) x.queue x.capture (submission_of y) (at_of at)).0.answer
+    says_by o.0.refusal o.0.number ≡ says (submit_of (session_of x.session) x.queue x.capture (submission_of y) (at_of at)).0.answer
 SameAnswer (transition f at) x =
     let o = transition_host x.session x.queue x.capture f at in
-    says_by o.0.refusal o.0.number ≡ says_submit (transition_of (session_of x.session) x.queue x.capture f (at_of at)).0.answer
+    says_by o.0.refusal o.0.number ≡ says (transition_of (session_of x.session) x.queue x.capture f (at_of at)).0.answer
 SameAnswer (block out) x =
     let o = block_host x.session x.queue x.capture x.pool out in
-    says_by o.0.refusal o.0.passes ≡ says_block (block_of (session_of x.session) x.queue x.capture x.pool out).0.answer
+    says_by o.0.refusal o.0.passes ≡ says (block_of (session_of x.session) x.queue x.capture x.pool out).0.answer
 SameAnswer (pump f n) x =
     let o = host_pumping x f n in
     (says_by o.0.refusal (o.0.frames, o.0.passes) ≡ says_pump (pumping (state_of x) f n).0.answer) × (host_feed x f n ≡ feed_of (state_of x) f n)
@@ -207,18 +204,18 @@ SameAnswer start_capture x =
 SameAnswer (stop_capture list) x =
     let o = stop_capture_host x.session x.queue x.capture list in
     let r = stop_capture_of (session_of x.session) x.queue x.capture list in
-    (says_by o.0.refusal o.0.copied ≡ says_stop r.0.answer) × (o.1 ≡ r.1)
+    (says_by o.0.refusal o.0.copied ≡ says r.0.answer) × (o.1 ≡ r.1)
 SameAnswer (replay list) x =
     let o = replay_host x.session x.queue x.capture list in
-    says_by o.0.refusal o.0.report ≡ says_replay (replay_of (session_of x.session) x.queue x.capture list).0.answer
+    says_by o.0.refusal o.0.report ≡ says (replay_of (session_of x.session) x.queue x.capture list).0.answer
 SameAnswer snapshot x =
     let o = snapshot_host x.session x.queue x.capture in
-    says_by o.refusal (snapshot_of o.snapshot) ≡ says_snapshot (control.snapshot_of (session_of x.session) x.queue x.capture).answer
+    says_by o.refusal (snapshot_of o.snapshot) ≡ says (control.snapshot_of (session_of x.session) x.queue x.capture).answer
 SameAnswer (apply y) x =
     says_by (apply_host x.session x.queue x.capture y).refusal tt ≡ says (control.apply_of (session_of x.session) x.queue x.capture (snapshot_of y)).answer
 SameAnswer metrics x =
     let o = metrics_host x.session x.queue x.capture in
-    says_by o.refusal o.metrics ≡ says_metrics (metrics_of (session_of x.session) x.queue x.capture).answer
+    says_by o.refusal o.metrics ≡ says (metrics_of (session_of x.session) x.queue x.capture).answer
 
 -- it says what its call says, and leaves and sounds what the call does
 pub record DoesItsCall (k : HostCall) (x : HostState) : Type 0 where
@@ -230,7 +227,7 @@ pub record DoesItsCall (k : HostCall) (x : HostState) : Type 0 where
 -- an exported opening too
 pub record OpensAsCall (o : Opening) : Type 0 where
   pub answer : let r = open_host o.settings o.queue o.capture o.pool o.samples o.rate o.extent in
-      says_by r.0.refusal r.0.handle ≡ says_load (open_of o.settings o.queue o.capture o.pool o.samples o.rate o.extent).0.answer
+      says_by r.0.refusal r.0.handle ≡ says (open_of o.settings o.queue o.capture o.pool o.samples o.rate o.extent).0.answer
   pub number : (host_opened o).0 ≡ (opened o).0
   pub state : state_of (host_opened o).1 ≡ (opened o).1
 

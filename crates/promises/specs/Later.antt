@@ -1,15 +1,15 @@
 -- 'A command other than a transition, for a named clock frame past a block's end and accepted both before and after that block, gives the same samples and
 -- session but for the deepest queue seen.' Definitions only.
-use Rattle.std.specs.Prelude.{◌≡◌, List, map, ◌+◌, ◌<◌, Float}
+use Rattle.std.specs.Prelude.{◌≡◌, List, map, ◌+◌, ◌<◌, Float, Result}
 use Rattle.counts.specs.declared.ClockFrame.{ClockFrame}
 use Rattle.timeline.specs.declared.Submission.{Submission}
 use Rattle.transport.specs.declared.At.{At}
 use Rattle.bank.specs.Sample.{frames_of}
-use Rattle.submission.specs.declared.SubmitAnswer.{SubmitAnswer}
 use Rattle.submission.specs.Submit.{submit_of}
 use Rattle.submission.specs.Order.{waiting, recorded, shallow}
 use Rattle.promises.specs.Calls.{State, submit, block, refusal, after, after_all, out_of, report_of, heard_all, reports, Given}
 use Rattle.promises.specs.Kept.{Good}
+use Rattle.session.specs.declared.Refusal.{Refusal}
 
 -- the same but for the deepest depth; of the stores the records count, not the words behind them
 pub record SameButDeepest (x y : State) : Type 0 where
@@ -19,7 +19,7 @@ pub record SameButDeepest (x y : State) : Type 0 where
   pub capture : recorded x.session x.capture ≡ recorded y.session y.capture
 
 -- what a submission answers: its number, or its refusal
-abbrev pub answer_of : Submission → At → State → SubmitAnswer
+abbrev pub answer_of : Submission → At → State → Result ℕ Refusal
 answer_of y at x = (submit_of x.session x.queue x.capture y at).0.answer
 
 -- blocks make the same samples of both, report the same passes, and leave them the same but for that

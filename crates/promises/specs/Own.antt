@@ -11,8 +11,7 @@ use Rattle.bank.specs.Slots.{clip_of, extent_of}
 use Rattle.bank.specs.Recording.{Recording, view_of}
 use Rattle.oneshot.specs.Mix.{voice_at}
 use Rattle.stage.specs.declared.Tail.{Tail}
-use Rattle.session.specs.Answer.{gives}
-use Rattle.clips.specs.Answer.{says_load}
+use Rattle.session.specs.Answer.{gives, says}
 use Rattle.clips.specs.Open.{open_of}
 use Rattle.clips.specs.Load.{load_of}
 use Rattle.submission.specs.Order.{waiting}
@@ -39,7 +38,7 @@ pub record StandsFor (h : Handle) (c : Clipped) (x : State) : Type 0 where
 
 -- a load gives a handle
 abbrev pub LoadGives : State → Clipped → Handle → Type 0
-LoadGives x c h = says_load (load_of x.session x.queue x.capture x.pool c.samples c.kind c.rate).0.answer ≡ gives h
+LoadGives x c h = says (load_of x.session x.queue x.capture x.pool c.samples c.kind c.rate).0.answer ≡ gives h
 
 -- the call that loads it
 abbrev pub loading : Clipped → Call
@@ -47,7 +46,7 @@ loading c = load c.samples c.kind c.rate
 
 -- an opening gives a handle
 abbrev pub OpenGives : Opening → Handle → Type 0
-OpenGives o h = says_load (open_of o.settings o.queue o.capture o.pool o.samples o.rate o.extent).0.answer ≡ gives h
+OpenGives o h = says (open_of o.settings o.queue o.capture o.pool o.samples o.rate o.extent).0.answer ≡ gives h
 
 -- its song
 abbrev pub song_of : Opening → Clipped

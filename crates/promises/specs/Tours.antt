@@ -9,8 +9,7 @@ use Rattle.remains.specs.Salvage.{salvage_of, says_salvage, salvage_out, salvage
 use Rattle.bank.specs.declared.Bank.{Bank}
 use Rattle.bank.specs.Slots.{used_at, clip_in, handle_of}
 use Rattle.session.specs.declared.Session.{Session}
-use Rattle.session.specs.Answer.{gives}
-use Rattle.control.specs.Answer.{says_stop}
+use Rattle.session.specs.Answer.{gives, says}
 use Rattle.control.specs.Capture.{stop_capture_of}
 use Rattle.host.specs.Answers.{says_tour_by, says_salvage_by}
 use Rattle.host.specs.Calls.{read_tour_host, write_tour_host, salvage_host}
@@ -41,7 +40,7 @@ clips_of b = slot_words b 0 32
 -- whatever a capture that is stopped gives is written with the session's own list, where serials have their 32 bits; a short output alone is refused
 abbrev pub CaptureSaves : Type 0
 CaptureSaves =
-    (s : Session) (q c list : List ℕ) (n room : ℕ) → s.bank.last < 2 ^ 32 → says_stop (stop_capture_of s q c list).0.answer ≡ gives n
+    (s : Session) (q c list : List ℕ) (n room : ℕ) → s.bank.last < 2 ^ 32 → says (stop_capture_of s q c list).0.answer ≡ gives n
     → let clips : List ℕ = clips_of s.bank in
     let rows : List Row = records_of (take (n * 5) (stop_capture_of s q c list).1) in
     (length (file_of clips rows) ≤ room → says_tour (write_of clips rows room) ≡ gives_tour (length (file_of clips rows)))

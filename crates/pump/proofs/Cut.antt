@@ -12,23 +12,23 @@ use Rattle.bank.specs.Recording.{view_of}
 use Rattle.stage.specs.Machine.{machine_of}
 use Rattle.stage.proofs.Clock.{clocked}
 use Rattle.session.specs.declared.Session.{Session}
-use Rattle.block.specs.declared.BlockAnswered.{BlockAnswered}
+use Rattle.session.specs.declared.Answered.{Answered}
 use Rattle.block.specs.Block.{ran_of, reported}
 use Rattle.block.proofs.Kept.{block_keeps}
 use Rattle.ring.specs.declared.SampleRing.{SampleRing}
 use Rattle.ring.specs.Ring.{ring_at, Within, held_of, free_of, place_at}
 use Rattle.ring.proofs.Places.{place_on, place_same}
-use Rattle.pump.specs.declared.PumpAnswer.{PumpAnswer}
 use Rattle.pump.specs.declared.Pumped.{Pumped}
 use Rattle.pump.specs.Pump.{frames_made, block_into, pumped, pump_done, pump_of, pumped_frames, pumped_passes}
 use Rattle.pump.proofs.Weighing.{made_fits, Accepted, pump_done_law}
 use Rattle.pump.proofs.Into.{into_length, into_cut, into_place}
 use Rattle.pump.proofs.Order.{pump_within, pump_held}
+use Rattle.std.specs.Prelude.{Ok}
 
 -- a pump and then another as one: frames and passes added up, and what the last left
 abbrev pub pumped_both : Pumped × List Float → Pumped × List Float → Pumped × List Float
 pumped_both u v =
-    (pumped (PumpAnswer.Pumped (pumped_frames u.0.answer + pumped_frames v.0.answer) (pumped_passes u.0.answer + pumped_passes v.0.answer)) v.0.session v.0.ring, v.1)
+    (pumped (Ok (record { frames = pumped_frames u.0.answer + pumped_frames v.0.answer; passes = pumped_passes u.0.answer + pumped_passes v.0.answer })) v.0.session v.0.ring, v.1)
 
 -- the lesser of both, one after the other
 lesser_twice : (a b f : ℕ) → min (a + b) f ≡ min a f + min b (f - min a f)
@@ -64,8 +64,8 @@ module _ (s : Session) (q : List ℕ) (pool : List Float) (r : SampleRing) (stor
   done_cut a b =
       let n : ℕ = length store in
       let t : ℕ = place_at n r.tail (a * 2) in
-      let z : BlockAnswered × List Float = block_into s q pool store r.tail a in
-      let y : BlockAnswered × List Float = block_into z.0.session q pool z.1 t b in
+      let z : Answered ℕ × List Float = block_into s q pool store r.tail a in
+      let y : Answered ℕ × List Float = block_into z.0.session q pool z.1 t b in
       let ln : length z.1 ≡ n = into_length s q pool store r.tail a in
       let here : block_into z.0.session q pool z.1 (r.tail + a * 2) b ≡ y =
       into_place z.0.session q pool z.1 (r.tail + a * 2) t b (rw ln (sym (place_same n r.tail (a * 2)))) in
@@ -73,9 +73,9 @@ module _ (s : Session) (q : List ℕ) (pool : List Float) (r : SampleRing) (stor
       let end : place_at n r.tail ((a + b) * 2) ≡ place_at (length z.1) t (b * 2) =
       ap (place_at n r.tail) both ∙ sym (place_on n r.tail (a * 2) (b * 2)) ∙ ap (λ (k : ℕ). place_at k t (b * 2)) (sym ln) in
       let all : SampleRing = ring_at r.head (place_at n r.tail ((a + b) * 2)) in
-      ap (λ (d : BlockAnswered × List Float). (pumped (PumpAnswer.Pumped (a + b) (reported d.0.answer)) d.0.session all, d.1)) (into_cut s q pool store r.tail a b)
-      ∙ ap (λ (d : BlockAnswered × List Float). (pumped (PumpAnswer.Pumped (a + b) (reported z.0.answer + reported d.0.answer)) d.0.session all, d.1)) here
-      ∙ ap (λ (k : ℕ). (pumped (PumpAnswer.Pumped (a + b) (reported z.0.answer + reported y.0.answer)) y.0.session (ring_at r.head k), y.1)) end
+      ap (λ (d : Answered ℕ × List Float). (pumped (Ok (record { frames = a + b; passes = reported d.0.answer })) d.0.session all, d.1)) (into_cut s q pool store r.tail a b)
+      ∙ ap (λ (d : Answered ℕ × List Float). (pumped (Ok (record { frames = a + b; passes = reported z.0.answer + reported d.0.answer })) d.0.session all, d.1)) here
+      ∙ ap (λ (k : ℕ). (pumped (Ok (record { frames = a + b; passes = reported z.0.answer + reported y.0.answer })) y.0.session (ring_at r.head k), y.1)) end
 
 -- ---- at the call
 

@@ -23,16 +23,17 @@ use Rattle.stage.proofs.Clock.{clocked}
 use Rattle.stage.proofs.Passes.{frame_few, passes_append}
 use Rattle.session.specs.declared.Desk.{Desk}
 use Rattle.session.specs.declared.Session.{Session}
-use Rattle.block.specs.declared.BlockAnswer.{BlockAnswer}
-use Rattle.block.specs.declared.BlockAnswered.{BlockAnswered}
+use Rattle.session.specs.declared.Answered.{Answered}
 use Rattle.block.specs.declared.Made.{Made}
-use Rattle.block.specs.Block.{of_parts, block_answered, ran_of, block_done, reported}
+use Rattle.session.specs.Answer.{answered}
+use Rattle.block.specs.Block.{of_parts, ran_of, block_done, reported}
 use Rattle.block.proofs.Cut.{left_by, done_cut}
 use Rattle.block.proofs.Kept.{block_came, block_keeps}
 use Rattle.ring.specs.Ring.{place_at, pushed}
 use Rattle.ring.proofs.Pushed.{pushed_length, pushed_append, pushed_place, pushed_straight, pushed_across}
 use Rattle.pump.specs.Pump.{block_into}
 use Rattle.pump.specs.Into.{Pumpable, MadeInto, made_after}
+use Rattle.std.specs.Prelude.{Ok}
 
 -- ---- a session
 
@@ -79,23 +80,23 @@ module _ (s : Session) (q : List ℕ) (pool : List Float) where
 
     -- IN PIECES: a + b frames into the store are a frames, and then b frames from there on, their passes added up
     pub into_cut : (a b : ℕ)
-        → let y : BlockAnswered × List Float = block_into s q pool store t a in
-        let z : BlockAnswered × List Float = block_into y.0.session q pool y.1 (t + a * 2) b in
-        block_into s q pool store t (a + b) ≡ (block_answered (BlockAnswer.Done (reported y.0.answer + reported z.0.answer)) z.0.session, z.1)
+        → let y : Answered ℕ × List Float = block_into s q pool store t a in
+        let z : Answered ℕ × List Float = block_into y.0.session q pool y.1 (t + a * 2) b in
+        block_into s q pool store t (a + b) ≡ (answered (Ok (reported y.0.answer + reported z.0.answer)) z.0.session, z.1)
     unfolding block_into
     into_cut a b =
         let x : List Float = sound_of a in
         let k : Session = left_by s q pool a in
         let y : List Float = (block_done k (ran_of k q pool b)).1 in
-        let all : BlockAnswered =
-        block_answered (BlockAnswer.Done (reported (block_done s (ran_of s q pool a)).0.answer + reported (block_done k (ran_of k q pool b)).0.answer)) (block_done k (ran_of k q pool b)).0.session in
+        let all : Answered ℕ =
+        answered (Ok (reported (block_done s (ran_of s q pool a)).0.answer + reported (block_done k (ran_of k q pool b)).0.answer)) (block_done k (ran_of k q pool b)).0.session in
         let n : ℕ = length store in
         let z : List Float = pushed n store t x in
         let e : pushed n store t (x ++ y) ≡ pushed (length z) z (t + a * 2) y =
         pushed_append n store t x y
         ∙ ap (λ (k : ℕ). pushed n z (t + k) y) (sound_length a)
         ∙ ap (λ (k : ℕ). pushed k z (t + a * 2) y) (sym (pushed_length n store t x)) in
-        ap (λ (d : BlockAnswered × List Float). (d.0, pushed n store t d.1)) (done_cut s q pool a b)
+        ap (λ (d : Answered ℕ × List Float). (d.0, pushed n store t d.1)) (done_cut s q pool a b)
         ∙ ap (λ (l : List Float). (all, l)) e
 
     -- a place counts as it lies in the store
@@ -116,7 +117,7 @@ module _ (x : Settings) (b : Bank) (t : Stage) (m : ℕ) (q : List ℕ) (pool : 
   module _ (store : List Float) (place : ℕ) where
     -- STRAIGHT: the part that a block was made into, put back, is the store with its samples pushed
     pub into_straight : (n : ℕ) → place + n * 2 ≤ length store → (made : Made) (out : List Float)
-        → ((desk : Desk) → ◌≡◌ {A = BlockAnswered × List Float} (block_answered made.answer (of_parts x b made.stage made.queued desk), out)
+        → ((desk : Desk) → ◌≡◌ {A = Answered ℕ × List Float} (answered made.answer (of_parts x b made.stage made.queued desk), out)
         (block_done (at desk) (ran_of (at desk) q pool (frames_of (take (place + n * 2 - place) (drop place store))))))
         → MadeInto x b t m q pool store place n made (take place store ++ (out ++ drop (place + n * 2 - place) (drop place store)))
     unfolding block_into
@@ -129,16 +130,16 @@ module _ (x : Settings) (b : Bank) (t : Stage) (m : ℕ) (q : List ℕ) (pool : 
         pushed_straight store place (sound_of s q pool n) (omega (arith, sound_length s q pool n))
         ∙ ap (λ (j : ℕ). take place store ++ (sound_of s q pool n ++ drop (place + j) store)) (sound_length s q pool n)
         ∙ ap (λ (l : List Float). take place store ++ (sound_of s q pool n ++ l)) (sym (drop-drop (n * 2) place store) ∙ ap (λ (j : ℕ). drop j (drop place store)) (sym k)) in
-        ap (λ (z : BlockAnswered × List Float). (z.0, take place store ++ (z.1 ++ drop (place + n * 2 - place) (drop place store)))) (f desk ∙ ap (λ (j : ℕ). block_done s (ran_of s q pool j)) e)
+        ap (λ (z : Answered ℕ × List Float). (z.0, take place store ++ (z.1 ++ drop (place + n * 2 - place) (drop place store)))) (f desk ∙ ap (λ (j : ℕ). block_done s (ran_of s q pool j)) e)
         ∙ ap (λ (l : List Float). ((block_done s (ran_of s q pool n)).0, l)) (sym st)
 
     -- OVER THE END: one frame, its right sample in the first place
     pub into_across : place + 1 ≡ length store → (made : Made) (pair : List Float) (d : Float)
-        → ((desk : Desk) → ◌≡◌ {A = BlockAnswered × List Float} (block_answered made.answer (of_parts x b made.stage made.queued desk), pair) (block_done (at desk) (ran_of (at desk) q pool 1)))
+        → ((desk : Desk) → ◌≡◌ {A = Answered ℕ × List Float} (answered made.answer (of_parts x b made.stage made.queued desk), pair) (block_done (at desk) (ran_of (at desk) q pool 1)))
         → MadeInto x b t m q pool store place 1 made (set (set store place (get_or pair 0 d)) 0 (get_or pair 1 d))
     unfolding block_into
     into_across e made pair d f desk =
-        ap (λ (z : BlockAnswered × List Float). (z.0, set (set store place (get_or z.1 0 d)) 0 (get_or z.1 1 d))) (f desk)
+        ap (λ (z : Answered ℕ × List Float). (z.0, set (set store place (get_or z.1 0 d)) 0 (get_or z.1 1 d))) (f desk)
         ∙ ap (λ (l : List Float). ((block_done (at desk) (ran_of (at desk) q pool 1)).0, l)) (two (sound_of (at desk) q pool 1) (sound_length (at desk) q pool 1))
       where
         two : (l : List Float) → length l ≡ 1 * 2 → set (set store place (get_or l 0 d)) 0 (get_or l 1 d) ≡ pushed (length store) store place l
@@ -156,12 +157,12 @@ module _ (x : Settings) (b : Bank) (t : Stage) (m : ℕ) (q : List ℕ) (pool : 
     module _ (a : ℕ) (made : Made) (st : List Float) (e : MadeInto x b t m q pool store place a made st) where
       -- in a store of the same length,
       pub on_length : Desk → length st ≡ length store
-      on_length desk = ap (λ (z : BlockAnswered × List Float). length z.1) (e desk) ∙ into_length (at desk) q pool store place a
+      on_length desk = ap (λ (z : Answered ℕ × List Float). length z.1) (e desk) ∙ into_length (at desk) q pool store place a
 
       -- with few passes,
       pub on_few : Desk → reported made.answer ≤ a * 2
       unfolding block_into
-      on_few desk = rw (ap (λ (z : BlockAnswered × List Float). reported z.0.answer) (e desk)) (passes_few (at desk) q pool a)
+      on_few desk = rw (ap (λ (z : Answered ℕ × List Float). reported z.0.answer) (e desk)) (passes_few (at desk) q pool a)
 
       -- the rest can be made,
       pub on_pumpable : (k n : ℕ) → a + k ≡ n → Pumpable x b t m q pool n → Pumpable x b made.stage made.queued q pool k
@@ -169,7 +170,7 @@ module _ (x : Settings) (b : Bank) (t : Stage) (m : ℕ) (q : List ℕ) (pool : 
       on_pumpable k n h p =
           let g = p.going in
           let s : Session = at g.desk in
-          let left : of_parts x b made.stage made.queued g.desk ≡ left_by s q pool a = ap (λ (z : BlockAnswered × List Float). z.0.session) (e g.desk) in
+          let left : of_parts x b made.stage made.queued g.desk ≡ left_by s q pool a = ap (λ (z : Answered ℕ × List Float). z.0.session) (e g.desk) in
           let room : t.clock.0 + a ≤ 2 ^ 62 = omega (arith, p.clock) in
           let clock = block_clock (machine s q pool) (clocked x (view_of pool b)) a (stand t (queue q m)) in
           let now : made.stage.clock.0 ≡ (left_by s q pool a).stage.clock.0 = ap (λ (z : Session). z.stage.clock.0) left in
@@ -191,14 +192,14 @@ module _ (x : Settings) (b : Bank) (t : Stage) (m : ℕ) (q : List ℕ) (pool : 
           → MadeInto x b made.stage made.queued q pool st j k last su → MadeInto x b t m q pool store place n (made_after made.answer last) su
       on_joined k n j last su h pl f desk =
           let s : Session = at desk in
-          let z : BlockAnswered × List Float = block_into s q pool store place a in
+          let z : Answered ℕ × List Float = block_into s q pool store place a in
           let pl' : place_at (length z.1) j 0 ≡ place_at (length z.1) (place + a * 2) 0 = rw (into_length s q pool store place a) pl in
-          let g : ◌≡◌ {A = BlockAnswered × List Float} (block_answered last.answer (of_parts x b last.stage last.queued desk), su) (block_into z.0.session q pool z.1 (place + a * 2) k) =
+          let g : ◌≡◌ {A = Answered ℕ × List Float} (answered last.answer (of_parts x b last.stage last.queued desk), su) (block_into z.0.session q pool z.1 (place + a * 2) k) =
           f desk
-          ∙ ap (λ (y : BlockAnswered × List Float). block_into y.0.session q pool y.1 j k) (e desk)
+          ∙ ap (λ (y : Answered ℕ × List Float). block_into y.0.session q pool y.1 j k) (e desk)
           ∙ into_place z.0.session q pool z.1 j (place + a * 2) k pl' in
-          ap (λ (y : BlockAnswered × List Float). (block_answered (BlockAnswer.Done (reported made.answer + reported y.0.answer)) y.0.session, y.1)) g
-          ∙ ap (λ (y : BlockAnswered × List Float). (block_answered (BlockAnswer.Done (reported y.0.answer + reported (block_into z.0.session q pool z.1 (place + a * 2) k).0.answer)) (block_into z.0.session q pool z.1 (place + a * 2) k).0.session, (block_into z.0.session q pool z.1 (place + a * 2) k).1)) (e desk)
+          ap (λ (y : Answered ℕ × List Float). (answered (Ok (reported made.answer + reported y.0.answer)) y.0.session, y.1)) g
+          ∙ ap (λ (y : Answered ℕ × List Float). (answered (Ok (reported y.0.answer + reported (block_into z.0.session q pool z.1 (place + a * 2) k).0.answer)) (block_into z.0.session q pool z.1 (place + a * 2) k).0.session, (block_into z.0.session q pool z.1 (place + a * 2) k).1)) (e desk)
           ∙ sym (into_cut s q pool store place a k)
           ∙ ap (block_into s q pool store place) h
 

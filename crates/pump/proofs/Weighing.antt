@@ -11,20 +11,19 @@ use borrow.Author.Tests.{not-false, ltb-false, le-ltb}
 use Rattle.bank.specs.Sample.{is_pool}
 use Rattle.session.specs.declared.Session.{Session}
 use Rattle.session.specs.declared.Refusal.{Refusal}
-use Rattle.session.specs.declared.Weighed.{Weighed}
 use Rattle.session.specs.Session.{with_stage}
 use Rattle.session.specs.WellFormed.{well_formed}
 use Rattle.session.proofs.Refuse.{passed, skip, unless_fine, unless_refused}
-use Rattle.block.specs.declared.BlockAnswered.{BlockAnswered}
+use Rattle.session.specs.declared.Answered.{Answered}
 use Rattle.block.specs.declared.Made.{Made}
 use Rattle.block.specs.Block.{reported}
 use Rattle.ring.specs.declared.SampleRing.{SampleRing}
 use Rattle.ring.specs.Ring.{ring_at, Within, held_of, free_of, place_at}
 use Rattle.ring.proofs.Places.{within, ring_ok_law, held_lt}
-use Rattle.pump.specs.declared.PumpAnswer.{PumpAnswer}
 use Rattle.pump.specs.declared.Pumped.{Pumped}
 use Rattle.pump.specs.Into.{Pumpable, MadeInto}
 use Rattle.pump.specs.Pump.{frames_made, weigh_pump, pumped, pump_done, pump_of}
+use Rattle.std.specs.Prelude.{Ok, Err}
 
 -- ---- the frames made
 
@@ -49,7 +48,7 @@ pub record Accepted (s : Session) (q c : List ℕ) (pool : List Float) (r : Samp
 
 module _ (s : Session) (q c : List ℕ) (pool : List Float) (r : SampleRing) (n frames : ℕ) where
   -- a pump that is not refused is none of them,
-  pub accepted : weigh_pump s q c pool r n frames ≡ Weighed.Fine → Accepted s q c pool r n frames
+  pub accepted : weigh_pump s q c pool r n frames ≡ Ok tt → Accepted s q c pool r n frames
   unfolding weigh_pump
   accepted e =
       let p1 = passed _ _ _ e in
@@ -64,7 +63,7 @@ module _ (s : Session) (q c : List ℕ) (pool : List Float) (r : SampleRing) (n 
       }
 
   -- one that is none of them is not refused,
-  pub fine : Accepted s q c pool r n frames → weigh_pump s q c pool r n frames ≡ Weighed.Fine
+  pub fine : Accepted s q c pool r n frames → weigh_pump s q c pool r n frames ≡ Ok tt
   unfolding weigh_pump
   fine a =
       sym
@@ -84,7 +83,7 @@ module _ (s : Session) (q c : List ℕ) (pool : List Float) (r : SampleRing) (st
   pump_done_law a = unless_fine _ _ _ (fine s q c pool r (length store) frames a)
 
   -- and what a refused one does: session, ring and store as they were
-  pub pump_refused_law : (k : Refusal) → weigh_pump s q c pool r (length store) frames ≡ Weighed.Refused k → pump_of s q c pool r store frames ≡ (pumped (PumpAnswer.Refused k) s r, store)
+  pub pump_refused_law : (k : Refusal) → weigh_pump s q c pool r (length store) frames ≡ Err k → pump_of s q c pool r store frames ≡ (pumped (Err k) s r, store)
   unfolding pump_of
   pump_refused_law k e = unless_refused _ _ _ k e
 
@@ -92,9 +91,9 @@ module _ (s : Session) (q c : List ℕ) (pool : List Float) (r : SampleRing) (st
   pub pump_gives : Accepted s q c pool r (length store) frames → (n : ℕ) → n ≡ frames_made (length store) r frames → (m : Made) (st : List Float)
       → MadeInto s.settings s.bank s.stage s.queued q pool store r.tail n m st
       → (passes : ℕ) → passes ≡ reported m.answer → (p : ℕ) → p ≡ place_at (length store) r.tail (n * 2)
-      → ◌≡◌ {A = Pumped × List Float} (pumped (PumpAnswer.Pumped n passes) (with_stage s m.stage m.queued) (ring_at r.head p), st) (pump_of s q c pool r store frames)
+      → ◌≡◌ {A = Pumped × List Float} (pumped (Ok (record { frames = n; passes = passes })) (with_stage s m.stage m.queued) (ring_at r.head p), st) (pump_of s q c pool r store frames)
   pump_gives a n e m st f passes g p h =
       rw (g, h)
-      (ap (λ (z : BlockAnswered × List Float). (pumped (PumpAnswer.Pumped n (reported z.0.answer)) z.0.session (ring_at r.head (place_at (length store) r.tail (n * 2))), z.1)) (f s.desk)
+      (ap (λ (z : Answered ℕ × List Float). (pumped (Ok (record { frames = n; passes = reported z.0.answer })) z.0.session (ring_at r.head (place_at (length store) r.tail (n * 2))), z.1)) (f s.desk)
       ∙ ap (pump_done s q pool r store) e
       ∙ sym (pump_done_law a))

@@ -9,22 +9,23 @@ ghost use Rattle.pump.specs.Pump.{frames_made, weigh_pump, pump_of};
 ghost use Rattle.pump.specs.Into.{Pumpable, MadeInto, made_after};
 
 use bank::Bank;
-use block::{BlockAnswer, Made};
+use block::Made;
 use ring::SampleRing;
-use session::{CLOCK_END, Refusal, Session, Weighed};
+use session::{CLOCK_END, Refusal, Session};
 use stage::{Settings, Stage};
 
-/// The answer of a pump: how many frames were made, and how many times the playhead passed from a loop's end to its
-/// start in them.
+/// What a pump gives: how many frames were made, and how many times the playhead passed from a loop's end to its start in
+/// them.
 #[derive(Clone, Copy)]
-pub enum PumpAnswer {
-    Pumped(usize, u64),
-    Refused(Refusal),
+pub struct Pushed {
+    pub frames: usize,
+    pub passes: u64,
 }
 
+/// The answer of a pump, and the session and the ring that it leaves.
 #[derive(Clone, Copy)]
 pub struct Pumped {
-    pub answer: PumpAnswer,
+    pub answer: Result<Pushed, Refusal>,
     pub session: Session,
     pub ring: SampleRing,
 }
@@ -47,23 +48,23 @@ pub fn weigh_pump(
     r: SampleRing,
     size: usize,
     frames: usize,
-) -> Weighed
+) -> Result<(), Refusal>
     ensures { result ≡ weigh_pump s queue.now capture.now pool.now r size frames }
 {
     if !session::well_formed(s, queue, capture) {
-        return Weighed::Refused(Refusal::NotWellFormed);
+        return Err(Refusal::NotWellFormed);
     }
     if !r.is_within(size) {
-        return Weighed::Refused(Refusal::BadRing);
+        return Err(Refusal::BadRing);
     }
     if !bank::is_pool(pool, s.settings.pool) {
-        return Weighed::Refused(Refusal::PoolLength);
+        return Err(Refusal::PoolLength);
     }
     let made = frames_made(r, size, frames);
     if s.stage.clock.0 + made as u64 > CLOCK_END {
-        return Weighed::Refused(Refusal::ClockSpent);
+        return Err(Refusal::ClockSpent);
     }
-    Weighed::Fine
+    Ok(())
 }
 
 /// So many frames into a part of the store that does not reach round its end.
@@ -115,7 +116,7 @@ fn across(
 }
 
 /// What frames make after others: the passes of all.
-fn joined(before: BlockAnswer, last: Made) -> Made
+fn joined(before: Result<u64, Refusal>, last: Made) -> Made
     requires { reported before + reported last.answer < 2 ^ 64 }
     ensures { result ≡ made_after before last }
 {
@@ -123,7 +124,7 @@ fn joined(before: BlockAnswer, last: Made) -> Made
     let passes = block::reported_by(before) + block::reported_by(answer);
     let stage = last.stage;
     Made {
-        answer: BlockAnswer::Done(passes),
+        answer: Ok(passes),
         stage,
         queued: last.queued,
     }
@@ -249,7 +250,7 @@ pub fn pump(
     let size = store.len();
     let weighed = weigh_pump(s, queue, capture, pool, r, size, frames);
     match weighed {
-        Weighed::Fine => {
+        Ok(()) => {
             let made = frames_made(r, size, frames);
             let tail = r.tail;
             let settings = s.settings;
@@ -274,13 +275,16 @@ pub fn pump(
             let mut r = r;
             r.tail = ring::place(size, tail, made * 2);
             Pumped {
-                answer: PumpAnswer::Pumped(made, block::reported_by(answer)),
+                answer: Ok(Pushed {
+                    frames: made,
+                    passes: block::reported_by(answer),
+                }),
                 session: s,
                 ring: r,
             }
         }
-        Weighed::Refused(k) => Pumped {
-            answer: PumpAnswer::Refused(k),
+        Err(k) => Pumped {
+            answer: Err(k),
             session: s,
             ring: r,
         },

@@ -6,10 +6,10 @@ use lib.IntN.{pos}
 use lib.ListN.{replicate}
 use lib.Ieee.{Float, fin}
 use Rattle.ramp.specs.Number.{zero32}
-use Rattle.ring.specs.declared.DrainAnswer.{DrainAnswer}
 use Rattle.ring.specs.Ring.{ring_at, held_of, free_of, place_at, from, pushed}
 use Rattle.session.specs.declared.Refusal.{Refusal}
 use Rattle.ring.specs.Drain.{by_frames, drained, drain_of}
+use Rattle.std.specs.Prelude.{Ok, Err}
 
 -- 1.0, 3.0, 5.0, 7.0
 abbrev one : Float
@@ -41,16 +41,16 @@ unfolding free_of held_of
 counts = (refl, refl, refl, refl)
 
 -- a block of seven takes both frames, then silence; the ring is empty
-pub drains : drain_of (ring_at 4 3) full (replicate 7 zero32) ≡ (drained (DrainAnswer.Drained 2) (ring_at 3 3), one ∷ (three ∷ (five ∷ (seven ∷ (zero32 ∷ (zero32 ∷ (zero32 ∷ [])))))))
+pub drains : drain_of (ring_at 4 3) full (replicate 7 zero32) ≡ (drained (Ok 2) (ring_at 3 3), one ∷ (three ∷ (five ∷ (seven ∷ (zero32 ∷ (zero32 ∷ (zero32 ∷ [])))))))
 unfolding drain_of by_frames held_of place_at from
 drains = refl
 
 -- three samples wait: one frame is taken, the odd sample stays
-pub half : drain_of (ring_at 4 2) full (replicate 4 zero32) ≡ (drained (DrainAnswer.Drained 1) (ring_at 1 2), one ∷ (three ∷ (zero32 ∷ (zero32 ∷ []))))
+pub half : drain_of (ring_at 4 2) full (replicate 4 zero32) ≡ (drained (Ok 1) (ring_at 1 2), one ∷ (three ∷ (zero32 ∷ (zero32 ∷ []))))
 unfolding drain_of by_frames held_of place_at from
 half = refl
 
 -- a head outside is refused, and the block stays
-pub outside : drain_of (ring_at 5 2) full (seven ∷ []) ≡ (drained (DrainAnswer.Refused Refusal.BadRing) (ring_at 5 2), seven ∷ [])
+pub outside : drain_of (ring_at 5 2) full (seven ∷ []) ≡ (drained (Err Refusal.BadRing) (ring_at 5 2), seven ∷ [])
 unfolding drain_of
 outside = refl

@@ -9,12 +9,12 @@ use lib.Seq.{take_at}
 use lib.Ieee.{Float}
 use Rattle.ramp.specs.Number.{zero32}
 use Rattle.ring.specs.declared.SampleRing.{SampleRing}
-use Rattle.ring.specs.declared.DrainAnswer.{DrainAnswer}
 use Rattle.ring.specs.declared.Drained.{Drained}
 use Rattle.ring.specs.Ring.{ring_at, Within, held_of, place_at, from, waiting}
 use Rattle.ring.specs.Drain.{whole_of, drained, drain_done, drain_of, by_frames}
 use Rattle.ring.proofs.Places.{place_lt, place_on, held_lt, tail_at, held_of_law, ring_ok_law}
 use Rattle.ring.proofs.Pushed.{from_on, from_length}
+use Rattle.std.specs.Prelude.{Ok}
 
 -- ---- frame by frame
 -- nothing waits: silence
@@ -125,5 +125,5 @@ module _ (r : SampleRing) (store : List Float) where
     -- what a drain gives that takes k frames, moves the head past them, and fills the block with them and silence
     pub drain_gives : (out : List Float) (k : ℕ) → k ≡ whole (length out) → (p : ℕ) → p ≡ place_at (length store) r.head (k * 2)
         → (ys : List Float) → ys ≡ from store r.head (k * 2) ++ replicate (length out - k * 2) zero32
-        → ◌≡◌ {A = Drained × List Float} (drained (DrainAnswer.Drained k) (ring_at p r.tail), ys) (drain_of r store out)
+        → ◌≡◌ {A = Drained × List Float} (drained (Ok k) (ring_at p r.tail), ys) (drain_of r store out)
     drain_gives out k e p f ys g = rw (drain_done_law out, g, f, e, drain_block (length out))

@@ -1,18 +1,10 @@
 -- The callback's block. Definitions only.
-use Rattle.std.specs.Prelude.{ℕ, zero, suc, ◌*◌, ◌/◌, min, cond, List, [], ◌∷◌, length, Float}
+use Rattle.std.specs.Prelude.{ℕ, zero, suc, ◌*◌, ◌/◌, min, cond, List, [], ◌∷◌, length, Float, Result, Ok, Err}
 use Rattle.ramp.specs.Number.{zero32}
 use Rattle.session.specs.declared.Refusal.{Refusal}
-use Rattle.session.specs.Refusal.{number_of}
-use Rattle.session.specs.Answer.{Says, refused, gives}
 use Rattle.ring.specs.declared.SampleRing.{SampleRing}
-use Rattle.ring.specs.declared.DrainAnswer.{DrainAnswer}
 use Rattle.ring.specs.declared.Drained.{Drained}
 use Rattle.ring.specs.Ring.{ring_at, ring_ok, held_of, place_at, from, waiting}
-
--- frames taken, or the refusal's number
-abbrev pub says_drain : DrainAnswer → Says ℕ
-says_drain (DrainAnswer.Drained n) = gives n
-says_drain (DrainAnswer.Refused k) = refused (number_of k)
 
 -- a block of so many samples from those that wait, frame by frame: a frame for which two are there takes them, any other is silence and takes nothing;
 -- an odd last sample is silence
@@ -28,16 +20,16 @@ abbrev pub whole_of : ℕ → SampleRing → ℕ → ℕ
 whole_of n r m = min (m / 2) (held_of n r / 2)
 
 -- answer and ring
-abbrev pub drained : DrainAnswer → SampleRing → Drained
+abbrev pub drained : Result ℕ Refusal → SampleRing → Drained
 drained a r = record { answer = a; ring = r }
 
 -- the frames taken, the head past them, and the block
 abbrev pub drain_done : SampleRing → List Float → ℕ → Drained × List Float
 drain_done r store m =
     let k : ℕ = whole_of (length store) r m in
-    (drained (DrainAnswer.Drained k) (ring_at (place_at (length store) r.head (k * 2)) r.tail), by_frames (waiting r store) m)
+    (drained (Ok k) (ring_at (place_at (length store) r.head (k * 2)) r.tail), by_frames (waiting r store) m)
 
 -- answer and ring; block
 unfoldable pub drain_of : SampleRing → List Float → List Float → Drained × List Float
 unfolding held_of place_at from by_frames
-drain_of r store out = cond (ring_ok (length store) r) (drain_done r store (length out)) (drained (DrainAnswer.Refused Refusal.BadRing) r, out)
+drain_of r store out = cond (ring_ok (length store) r) (drain_done r store (length out)) (drained (Err Refusal.BadRing) r, out)

@@ -23,16 +23,10 @@ pub struct SampleRing {
     pub tail: usize,
 }
 
-/// The answer of a drain: how many frames it took.
-#[derive(Clone, Copy)]
-pub enum DrainAnswer {
-    Drained(usize),
-    Refused(Refusal),
-}
-
+/// The answer of a drain, how many frames it took or why it is refused, and the ring that it leaves.
 #[derive(Clone, Copy)]
 pub struct Drained {
-    pub answer: DrainAnswer,
+    pub answer: Result<usize, Refusal>,
     pub ring: SampleRing,
 }
 
@@ -118,7 +112,7 @@ pub fn drain(r: SampleRing, store: &[f32], out: &mut [f32]) -> Drained
     let size = store.len();
     if !r.is_within(size) {
         return Drained {
-            answer: DrainAnswer::Refused(Refusal::BadRing),
+            answer: Err(Refusal::BadRing),
             ring: r,
         };
     }
@@ -130,7 +124,7 @@ pub fn drain(r: SampleRing, store: &[f32], out: &mut [f32]) -> Drained
     let mut r = r;
     r.head = place(size, head, taken);
     Drained {
-        answer: DrainAnswer::Drained(whole),
+        answer: Ok(whole),
         ring: r,
     }
 }

@@ -1,5 +1,5 @@
 -- Well formed: the rules' paragraph, clause by clause and in its order. Definitions only.
-use Rattle.std.specs.Prelude.{ℕ, ◌+◌, ◌*◌, ◌%◌, ◌^◌, Bool, true, not, ◌&&◌, List, leb, ltb, eqb, length}
+use Rattle.std.specs.Prelude.{ℕ, ◌+◌, ◌*◌, ◌%◌, ◌^◌, Bool, true, not, ◌&&◌, List, leb, ltb, eqb, length, Result, Ok}
 use Rattle.counts.specs.Below.{within, all_below}
 use Rattle.counts.specs.declared.Claim.{Claim}
 use Rattle.ramp.specs.Number.{zero32, two32, sixteen32, between}
@@ -20,7 +20,6 @@ use Rattle.stage.specs.Mode.{mode_ok}
 use Rattle.stage.specs.Sound.{master_frames}
 use Rattle.session.specs.declared.Session.{Session}
 use Rattle.session.specs.declared.Refusal.{Refusal}
-use Rattle.session.specs.declared.Weighed.{Weighed}
 use Rattle.session.specs.Refusal.{first}
 use Rattle.session.specs.Session.{extent_now, captured_now}
 
@@ -153,5 +152,5 @@ well_formed s q c =
     && counts_ok s
 
 -- 1 alone: start capture, replay, snapshot and metrics weigh nothing else
-unfoldable pub weigh_only : Session → List ℕ → List ℕ → Weighed
-weigh_only s q c = first (not (well_formed s q c)) Refusal.NotWellFormed Weighed.Fine
+unfoldable pub weigh_only : Session → List ℕ → List ℕ → Result (Unit {0}) Refusal
+weigh_only s q c = first (not (well_formed s q c)) Refusal.NotWellFormed (Ok tt)

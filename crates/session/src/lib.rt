@@ -193,23 +193,10 @@ impl Refusal {
     }
 }
 
-/// What weighing a call finds: the first refusal that holds, or none.
+/// The answer of a call, what it gives or why it is refused, and the session that it leaves.
 #[derive(Clone, Copy)]
-pub enum Weighed {
-    Fine,
-    Refused(Refusal),
-}
-
-/// The answer of a call that gives no value: retire, start capture, apply snapshot.
-#[derive(Clone, Copy)]
-pub enum Answer {
-    Done,
-    Refused(Refusal),
-}
-
-#[derive(Clone, Copy)]
-pub struct Answered {
-    pub answer: Answer,
+pub struct Answered<T> {
+    pub answer: Result<T, Refusal>,
     pub session: Session,
 }
 
@@ -530,11 +517,11 @@ pub fn well_formed(s: Session, queue: &[u64], capture: &[u64]) -> bool
 }
 
 /// 1 alone: start capture, replay, snapshot and metrics weigh nothing else.
-pub fn weigh_only(s: Session, queue: &[u64], capture: &[u64]) -> Weighed
+pub fn weigh_only(s: Session, queue: &[u64], capture: &[u64]) -> Result<(), Refusal>
     ensures { result ≡ weigh_only s queue.now capture.now }
 {
     if !well_formed(s, queue, capture) {
-        return Weighed::Refused(Refusal::NotWellFormed);
+        return Err(Refusal::NotWellFormed);
     }
-    Weighed::Fine
+    Ok(())
 }

@@ -25,8 +25,7 @@ use Rattle.session.specs.Refusal.{number_of}
 use Rattle.session.specs.Session.{desk_of, with_queue, captured_now, turned_away}
 use Rattle.session.specs.WellFormed.{well_formed, weigh_only}
 use Rattle.session.proofs.Parts.{Parts, parts, whole}
-use Rattle.submission.specs.declared.SubmitAnswered.{SubmitAnswered}
-use Rattle.submission.specs.declared.ReplayAnswered.{ReplayAnswered}
+use Rattle.session.specs.declared.Answered.{Answered}
 use Rattle.submission.specs.Weigh.{capture_room}
 use Rattle.submission.specs.Submit.{weigh_submit, numbered, taken, refused, submit_of}
 use Rattle.submission.specs.Transition.{cleared_queue, cleared_capture, cleared, weigh_transition, transition_of}
@@ -34,9 +33,10 @@ use Rattle.submission.specs.Replay.{Replaying, weigh_replayed, taken_by, skipped
 use Rattle.session.proofs.Refuse.{passed, refused_or_done}
 use Rattle.submission.proofs.Weigh.{Fits, fine_fits, voice_free}
 use Rattle.submission.proofs.Stores.{Captures, queue_of, capture_of, with_stores_law, capture_stays, queue_takes, capture_takes, queue_clears, capture_clears}
+use Rattle.submission.specs.declared.Report.{Report}
 
 -- what a submission or a transition leaves is well formed
-abbrev pub LeavesParts : SubmitAnswered × List ℕ × List ℕ → Type 0
+abbrev pub LeavesParts : Answered ℕ × List ℕ × List ℕ → Type 0
 LeavesParts z = Parts z.0.session z.1 z.2
 
 -- a capture, on or off, has the records that the Transitions left it
@@ -83,11 +83,11 @@ module _ (s : Session) (q c : List ℕ) (p : Parts s q c) where
 -- ---- submission and transition
 
 -- a submission or a transition leaves session, queue and capture well formed
-abbrev pub leaves_well : SubmitAnswered × List ℕ × List ℕ → Bool
+abbrev pub leaves_well : Answered ℕ × List ℕ × List ℕ → Bool
 leaves_well z = well_formed z.0.session z.1 z.2
 
 module _ (s : Session) (q c : List ℕ) (e : well_formed s q c ≡ true) (at : At) where
-  left : (z : SubmitAnswered × List ℕ × List ℕ) → LeavesParts z → leaves_well z ≡ true
+  left : (z : Answered ℕ × List ℕ × List ℕ) → LeavesParts z → leaves_well z ≡ true
   left z p = whole z.0.session z.1 z.2 p
 
   -- a submission leaves a well formed session well formed
@@ -136,5 +136,5 @@ module _ (c : List ℕ) where
   pub replay_kept : (s : Session) (q list : List ℕ) → well_formed s q c ≡ true → well_formed (replay_of s q c list).0.session (replay_of s q c list).1 c ≡ true
   unfolding replay_of
   replay_kept s q list e =
-      refused_or_done (weigh_only s q c) _ _ (λ (z : ReplayAnswered × List ℕ). well_formed z.0.session z.1 c ≡ true) (λ k _. e)
+      refused_or_done (weigh_only s q c) _ _ (λ (z : Answered Report × List ℕ). well_formed z.0.session z.1 c ≡ true) (λ k _. e)
       (λ _. let z : Replaying = replayed s q list (length list / 5) in whole z.session z.queue c (replayed_well s q list (parts s q c e) (length list / 5)))

@@ -26,7 +26,7 @@ use Rattle.stage.specs.Machine.{Told, FrameMade, machine_of}
 use Rattle.stage.proofs.Clock.{clocked}
 use Rattle.session.specs.declared.Session.{Session}
 use Rattle.session.specs.Session.{with_stage}
-use Rattle.submission.specs.declared.SubmitAnswered.{SubmitAnswered}
+use Rattle.session.specs.declared.Answered.{Answered}
 use Rattle.submission.specs.Submit.{submit_of}
 use Rattle.submission.specs.Order.{accepted, waiting, then_block, AlikeButDeepest}
 use Rattle.submission.proofs.Left.{record_for, submit_session, submit_takes}
@@ -36,7 +36,7 @@ module _ (s : Session) (q c : List ℕ) (x : Submission) (t : typed (command_of 
   abbrev r : QueueRecord
   r = record_for s (command_of x) (At.Frame f)
 
-  abbrev z : SubmitAnswered × List ℕ × List ℕ
+  abbrev z : Answered ℕ × List ℕ × List ℕ
   z = submit_of s q c x (At.Frame f)
 
   -- a block that takes the first k commands and leaves m, with the new one among them or not

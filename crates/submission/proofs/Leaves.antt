@@ -15,12 +15,12 @@ use Rattle.session.specs.declared.Session.{Session}
 use Rattle.session.specs.declared.Refusal.{Refusal}
 use Rattle.session.specs.Session.{turned_away}
 use Rattle.session.proofs.Refuse.{unless_both}
-use Rattle.submission.specs.declared.SubmitAnswered.{SubmitAnswered}
-use Rattle.submission.specs.declared.ReplayAnswered.{ReplayAnswered}
+use Rattle.session.specs.declared.Answered.{Answered}
 use Rattle.submission.specs.Submit.{taken, submit_of}
 use Rattle.submission.specs.Transition.{transition_of}
 use Rattle.submission.specs.Replay.{Replaying, replay_row, replayed, replay_of}
 use Rattle.submission.proofs.Left.{turned_away_law}
+use Rattle.submission.specs.declared.Report.{Report}
 
 -- all but the depth and the desk
 abbrev pub heart : Session → Settings × Bank × Stage
@@ -42,16 +42,16 @@ module _ (s : Session) (q c : List ℕ) where
   -- a submission,
   pub submit_leaves : (y : Submission) (at : At) → heart (submit_of s q c y at).0.session ≡ heart s
   unfolding submit_of taken
-  submit_leaves y at = unless_both {A = SubmitAnswered × List ℕ × List ℕ} _ _ _ (λ z. heart z.0.session ≡ heart s) (λ k. turned_leaves k s) (λ fine. refl)
+  submit_leaves y at = unless_both {A = Answered ℕ × List ℕ × List ℕ} _ _ _ (λ z. heart z.0.session ≡ heart s) (λ k. turned_leaves k s) (λ fine. refl)
 
   -- a transition
   pub transition_leaves : (f : SongFrame) (at : At) → heart (transition_of s q c f at).0.session ≡ heart s
   unfolding transition_of taken
   transition_leaves f at =
-      unless_both {A = SubmitAnswered × List ℕ × List ℕ} _ _ _ (λ z. heart z.0.session ≡ heart s) (λ k. turned_leaves k s) (λ fine. refl)
+      unless_both {A = Answered ℕ × List ℕ × List ℕ} _ _ _ (λ z. heart z.0.session ≡ heart s) (λ k. turned_leaves k s) (λ fine. refl)
 
   -- and a replay
   pub replay_leaves : (list : List ℕ) → heart (replay_of s q c list).0.session ≡ heart s
   unfolding replay_of
   replay_leaves list =
-      unless_both {A = ReplayAnswered × List ℕ} _ _ _ (λ z. heart z.0.session ≡ heart s) (λ k. refl) (λ fine. replayed_leaves s q list (length list / 5))
+      unless_both {A = Answered Report × List ℕ} _ _ _ (λ z. heart z.0.session ≡ heart s) (λ k. refl) (λ fine. replayed_leaves s q list (length list / 5))

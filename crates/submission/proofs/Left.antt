@@ -22,12 +22,10 @@ use Rattle.transport.specs.declared.At.{At}
 use Rattle.transport.specs.Deadline.{deadline_of}
 use Rattle.session.specs.declared.Session.{Session}
 use Rattle.session.specs.declared.Refusal.{Refusal}
-use Rattle.session.specs.declared.Weighed.{Weighed}
 use Rattle.session.specs.Refusal.{number_of, unless}
 use Rattle.session.specs.Session.{desk_of, with_desk, with_queue, captured_now, turned_away}
 use Rattle.session.proofs.Parts.{Parts, parts}
-use Rattle.submission.specs.declared.SubmitAnswer.{SubmitAnswer}
-use Rattle.submission.specs.declared.SubmitAnswered.{SubmitAnswered}
+use Rattle.session.specs.declared.Answered.{Answered}
 use Rattle.submission.specs.Weigh.{capture_room}
 use Rattle.submission.specs.Submit.{weigh_submit, numbered, desk_taken, taken, refused, submit_of}
 use Rattle.submission.specs.Transition.{cleared_queue, cleared_capture, cleared, weigh_transition, transition_of}
@@ -35,6 +33,7 @@ use Rattle.submission.specs.Order.{accepted, waiting, recorded}
 use Rattle.session.proofs.Refuse.{passed}
 use Rattle.submission.proofs.Weigh.{Fits, fine_fits}
 use Rattle.submission.proofs.Kept.{cleared_count, cleared_parts}
+use Rattle.std.specs.Prelude.{Result, Ok, Err}
 
 -- a refusal leaves the session but for the dropped count, to which 15 adds one, held at 2^64 - 1
 pub turned_away_law : (k : Refusal) (s : Session)
@@ -54,12 +53,12 @@ turned_away_law k s = go (eqb (number_of k) 15)
 
 module _ (s : Session) (q c : List ℕ) (at : At) (k : Refusal) where
   -- a refused submission leaves queue and capture, and the session but for the dropped count
-  pub submit_refused_law : (x : Submission) → weigh_submit s q c x ≡ Weighed.Refused k → submit_of s q c x at ≡ refused s q c k
+  pub submit_refused_law : (x : Submission) → weigh_submit s q c x ≡ Err k → submit_of s q c x at ≡ refused s q c k
   unfolding submit_of unless
   submit_refused_law x w = rw w
 
   -- a refused transition drops none
-  pub transition_refused : (f : SongFrame) → weigh_transition s q c f ≡ Weighed.Refused k → transition_of s q c f at ≡ refused s q c k
+  pub transition_refused : (f : SongFrame) → weigh_transition s q c f ≡ Err k → transition_of s q c f at ≡ refused s q c k
   unfolding transition_of unless
   transition_refused f w = rw w
 
@@ -70,8 +69,8 @@ abbrev pub record_for : Session → Command → At → QueueRecord
 record_for s x at = numbered s (deadline_of s.stage.clock s.stage.playhead.transport at) x
 
 -- a record is taken: its number is the answer, it stands in the queue behind all that are for its frame or an earlier one, and last in a capture that is on
-pub record Takes (r : QueueRecord) (on : Bool) (queued captured : List QueueRecord) (z : SubmitAnswered × List ℕ × List ℕ) : Type 0 where
-  pub answer : z.0.answer ≡ SubmitAnswer.Queued r.number
+pub record Takes (r : QueueRecord) (on : Bool) (queued captured : List QueueRecord) (z : Answered ℕ × List ℕ × List ℕ) : Type 0 where
+  pub answer : z.0.answer ≡ Ok r.number
   pub waits : waiting z.0.session z.1 ≡ insert_by frame r queued
   pub records : recorded z.0.session z.2 ≡ cond on (r ∷ captured) []
 
@@ -110,15 +109,15 @@ taken_takes s q c x at p t f =
         rw (add-one m) (queue_put c m r (omega arith) t)
     appended false m room = refl
 
-accepted_fine : (s : Session) (q c : List ℕ) (w : Weighed) (done : SubmitAnswered × List ℕ × List ℕ)
-    → accepted (unless w (refused s q c) done).0.answer ≡ true → w ≡ Weighed.Fine
+accepted_fine : (s : Session) (q c : List ℕ) (w : Result (Unit {0}) Refusal) (done : Answered ℕ × List ℕ × List ℕ)
+    → accepted (unless w (refused s q c) done).0.answer ≡ true → w ≡ Ok tt
 unfolding unless
-accepted_fine s q c Weighed.Fine done e = refl
-accepted_fine s q c (Weighed.Refused k) done e = absurd (never (sym e))
+accepted_fine s q c (Ok tt) done e = refl
+accepted_fine s q c (Err k) done e = absurd (never (sym e))
 
 module _ (s : Session) (q c : List ℕ) (x : Submission) (at : At) (ok : accepted (submit_of s q c x at).0.answer ≡ true) where
   -- a submission that is accepted weighs Fine,
-  pub submit_fine : weigh_submit s q c x ≡ Weighed.Fine
+  pub submit_fine : weigh_submit s q c x ≡ Ok tt
   unfolding submit_of
   submit_fine = accepted_fine s q c (weigh_submit s q c x) (taken s q c (command_of x) at) ok
 
@@ -149,7 +148,7 @@ module _ (s : Session) (q c : List ℕ) (x : Submission) (at : At) (ok : accepte
 
 module _ (s : Session) (q c : List ℕ) (f : SongFrame) (at : At) (ok : accepted (transition_of s q c f at).0.answer ≡ true) where
   -- a transition that is accepted weighs Fine, as if the older ones had gone,
-  pub transition_fine : weigh_transition s q c f ≡ Weighed.Fine
+  pub transition_fine : weigh_transition s q c f ≡ Ok tt
   unfolding transition_of
   transition_fine = accepted_fine s q c (weigh_transition s q c f) _ ok
 

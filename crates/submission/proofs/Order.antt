@@ -21,7 +21,7 @@ use Rattle.transport.specs.Deadline.{deadline_of}
 use Rattle.session.specs.declared.Session.{Session}
 use Rattle.session.specs.Session.{with_queue, captured_now}
 use Rattle.session.proofs.Parts.{Parts}
-use Rattle.submission.specs.declared.SubmitAnswered.{SubmitAnswered}
+use Rattle.session.specs.declared.Answered.{Answered}
 use Rattle.submission.specs.Submit.{desk_taken, submit_of}
 use Rattle.submission.specs.Order.{accepted, then_submit, due_at, waiting, recorded, exchanged, last_exchanged, Alike}
 use Rattle.submission.proofs.Left.{record_for, submit_parts, submit_session, submit_takes}
@@ -72,7 +72,7 @@ took s = with_queue s (s.queued + 1) (desk_taken s)
 
 module _ (s : Session) (q c : List ℕ) (x y : Submission) (at bt : At) (tx : typed (command_of x) ≡ true) (ty : typed (command_of y) ≡ true)
     (okx : accepted (submit_of s q c x at).0.answer ≡ true) (oky : accepted (then_submit (submit_of s q c x at) y bt).0.answer ≡ true) where
-  abbrev z : SubmitAnswered × List ℕ × List ℕ
+  abbrev z : Answered ℕ × List ℕ × List ℕ
   z = submit_of s q c x at
 
   abbrev n : ℕ

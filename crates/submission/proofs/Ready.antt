@@ -15,7 +15,6 @@ use Rattle.timeline.specs.Store.{row_at}
 use Rattle.timeline.specs.Queue.{stingers}
 use Rattle.session.specs.declared.Session.{Session}
 use Rattle.session.specs.declared.Refusal.{Refusal}
-use Rattle.session.specs.declared.Weighed.{Weighed}
 use Rattle.session.specs.Refusal.{first}
 use Rattle.session.specs.Session.{captured_now}
 use Rattle.session.specs.WellFormed.{well_formed}
@@ -27,10 +26,11 @@ use Rattle.submission.specs.Ready.{RowReady}
 use Rattle.submission.proofs.Weigh.{Fits, fine_fits, number_left, capture_left}
 use Rattle.submission.proofs.Kept.{replayed_well}
 use Rattle.submission.proofs.Reported.{replayed_told}
+use Rattle.std.specs.Prelude.{Result, Ok}
 
 -- a call that is not refused has a well formed session, and the later tests refuse nothing
-pub not_refused : (s : Session) (q c : List ℕ) (rest : Weighed) → first (not (well_formed s q c)) Refusal.NotWellFormed rest ≡ Weighed.Fine
-    → (well_formed s q c ≡ true) × (rest ≡ Weighed.Fine)
+pub not_refused : (s : Session) (q c : List ℕ) (rest : Result (Unit {0}) Refusal) → first (not (well_formed s q c)) Refusal.NotWellFormed rest ≡ Ok tt
+    → (well_formed s q c ≡ true) × (rest ≡ Ok tt)
 not_refused s q c rest e = let a = passed _ _ _ e in (not-false _ a.0, a.1)
 
 -- a queue with room for a command that fits has the five words for its record
@@ -38,7 +38,7 @@ pub record_room : (s : Session) (q : List ℕ) → length q ≡ s.settings.queue
 record_room s q size depth = omega arith
 
 -- a record that is not refused is readable, and its command fits
-pub taken_fits : (s : Session) (q : List ℕ) (x : Row) → weigh_replayed s q x ≡ Weighed.Fine → (readable x ≡ true) × Fits s q true (read_of x)
+pub taken_fits : (s : Session) (q : List ℕ) (x : Row) → weigh_replayed s q x ≡ Ok tt → (readable x ≡ true) × Fits s q true (read_of x)
 unfolding weigh_replayed
 taken_fits s q x e = let a = passed _ _ _ e in (not-false _ a.0, fine_fits s q true (read_of x) a.1)
 
@@ -51,7 +51,7 @@ module _ (s : Session) (q c : List ℕ) (e : well_formed s q c ≡ true) where
   pub clear_ready : (s.queued * 5 ≤ length q) × (captured_now s.desk * 5 ≤ length c)
   clear_ready = let p = parts s q c e in (omega arith, omega arith)
 
-  module _ (x : Command) (w : weigh_command (scales_of s q (capture_room s)) (stands_now s x) x ≡ Weighed.Fine) where
+  module _ (x : Command) (w : weigh_command (scales_of s q (capture_room s)) (stands_now s x) x ≡ Ok tt) where
     fits : Fits s q (capture_room s) x
     fits = fine_fits s q (capture_room s) x w
 

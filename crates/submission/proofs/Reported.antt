@@ -20,7 +20,6 @@ use Rattle.timeline.proofs.Queue.{queue_inserted}
 use Rattle.session.specs.declared.Desk.{Desk}
 use Rattle.session.specs.declared.Session.{Session}
 use Rattle.session.specs.declared.Refusal.{Refusal}
-use Rattle.session.specs.declared.Weighed.{Weighed}
 use Rattle.session.specs.Refusal.{number_of, first, unless}
 use Rattle.session.specs.Session.{desk_of, with_queue, turned_away}
 use Rattle.session.specs.WellFormed.{well_formed, weigh_only}
@@ -31,6 +30,7 @@ use Rattle.submission.specs.Submit.{numbered}
 use Rattle.submission.specs.Order.{waiting}
 use Rattle.session.proofs.Refuse.{passed, refused_or_done}
 use Rattle.submission.proofs.Weigh.{fine_fits}
+use Rattle.std.specs.Prelude.{Ok, Err}
 
 -- the session that a report tells: depth and number have risen by the records taken, the dropped count by those that found the queue full, held at 2^64 - 1;
 -- the deepest depth, the capture and all else stand
@@ -90,19 +90,19 @@ replay_told s q c list e small = (replay_done_law s q c list e, replayed_told s 
 
 module _ (z : Replaying) (x : Row) where
   -- a refused record leaves queue, depth and number
-  pub refused_row : (k : Refusal) → weigh_replayed z.session z.queue x ≡ Weighed.Refused k
+  pub refused_row : (k : Refusal) → weigh_replayed z.session z.queue x ≡ Err k
       → ((replay_row z x).queue ≡ z.queue) × ((replay_row z x).session.queued ≡ z.session.queued) × ((replay_row z x).session.desk.number ≡ z.session.desk.number)
   unfolding replay_row unless turned_away
   refused_row k w = rw w (refl, cond_both (λ (y : Session). y.queued ≡ z.session.queued) (eqb (number_of k) 15) _ _ refl refl, cond_both (λ (y : Session). y.desk.number ≡ z.session.desk.number) (eqb (number_of k) 15) _ _ refl refl)
 
   -- one that finds the queue full counts one as dropped, held at 2^64 - 1, and one as queue-full
-  pub full_row : weigh_replayed z.session z.queue x ≡ Weighed.Refused Refusal.QueueFull
+  pub full_row : weigh_replayed z.session z.queue x ≡ Err Refusal.QueueFull
       → ((replay_row z x).session.desk.dropped ≡ min (z.session.desk.dropped + 1) (2 ^ 64 - 1)) × ((replay_row z x).report.full ≡ z.report.full + 1)
   unfolding replay_row unless turned_away
   full_row w = rw w (refl, refl)
 
   -- one that is taken stands in the queue at its frame, under the next number
-  pub taken_row : (c : List ℕ) → Parts z.session z.queue c → weigh_replayed z.session z.queue x ≡ Weighed.Fine
+  pub taken_row : (c : List ℕ) → Parts z.session z.queue c → weigh_replayed z.session z.queue x ≡ Ok tt
       → waiting (replay_row z x).session (replay_row z x).queue
       ≡ insert_by frame (numbered z.session (record { 0 = x.at }) (read_of x)) (waiting z.session z.queue)
   unfolding replay_row unless weigh_replayed

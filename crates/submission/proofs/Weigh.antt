@@ -12,10 +12,10 @@ use Rattle.timeline.specs.Command.{claim_of, takes_voice, gain_ok, is_senseless}
 use Rattle.timeline.specs.Queue.{stingers}
 use Rattle.bank.specs.Slots.{claim_ok}
 use Rattle.session.specs.declared.Session.{Session}
-use Rattle.session.specs.declared.Weighed.{Weighed}
 use Rattle.session.specs.WellFormed.{held}
 use Rattle.session.proofs.Refuse.{passed}
 use Rattle.submission.specs.Weigh.{weigh_command, capture_room, scales_of, stands_now}
+use Rattle.std.specs.Prelude.{Ok}
 
 -- what a command has that a session takes; its capture has room if `spare`
 pub record Fits (s : Session) (q : List ℕ) (spare : Bool) (x : Command) : Type 0 where
@@ -29,7 +29,7 @@ pub record Fits (s : Session) (q : List ℕ) (spare : Bool) (x : Command) : Type
 
 module _ (s : Session) (q : List ℕ) (spare : Bool) (x : Command) where
   -- a command that weighs Fine fits
-  pub fine_fits : weigh_command (scales_of s q spare) (stands_now s x) x ≡ Weighed.Fine → Fits s q spare x
+  pub fine_fits : weigh_command (scales_of s q spare) (stands_now s x) x ≡ Ok tt → Fits s q spare x
   unfolding weigh_command claim_ok
   fine_fits e =
       let a14 = passed _ _ _ e in

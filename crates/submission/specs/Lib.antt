@@ -1,4 +1,3 @@
-pub mod Answer
 pub mod Weigh
 pub mod Submit
 pub mod Transition

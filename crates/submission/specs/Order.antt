@@ -1,5 +1,5 @@
 -- What two orders of submissions are compared by: the commands that wait, the records of a running capture, and numbers exchanged. Definitions only.
-use Rattle.std.specs.Prelude.{◌≡◌, ℕ, Bool, true, false, cond, List, [], ◌∷◌, map, eqb}
+use Rattle.std.specs.Prelude.{◌≡◌, ℕ, Bool, true, false, cond, List, [], ◌∷◌, map, eqb, Result, Ok, Err}
 use Rattle.timeline.specs.declared.QueueRecord.{QueueRecord}
 use Rattle.timeline.specs.declared.Submission.{Submission}
 use Rattle.timeline.specs.Queue.{queue}
@@ -9,18 +9,18 @@ use Rattle.stage.specs.declared.Stage.{Stage}
 use Rattle.session.specs.declared.Desk.{Desk}
 use Rattle.session.specs.declared.Session.{Session}
 use Rattle.session.specs.Session.{desk_of, with_desk, with_stage, captured_now}
-use Rattle.submission.specs.declared.SubmitAnswer.{SubmitAnswer}
-use Rattle.submission.specs.declared.SubmitAnswered.{SubmitAnswered}
-use Rattle.submission.specs.Answer.{submit_answered}
+use Rattle.session.specs.declared.Answered.{Answered}
+use Rattle.session.specs.Answer.{answered}
 use Rattle.submission.specs.Submit.{submit_of}
+use Rattle.session.specs.declared.Refusal.{Refusal}
 
 -- a submission is accepted if it answers a number
-abbrev pub accepted : SubmitAnswer → Bool
-accepted (SubmitAnswer.Queued n) = true
-accepted (SubmitAnswer.Refused k) = false
+abbrev pub accepted : Result ℕ Refusal → Bool
+accepted (Ok n) = true
+accepted (Err k) = false
 
 -- a submission that comes next, with what the call before left
-abbrev pub then_submit : SubmitAnswered × List ℕ × List ℕ → Submission → At → SubmitAnswered × List ℕ × List ℕ
+abbrev pub then_submit : Answered ℕ × List ℕ × List ℕ → Submission → At → Answered ℕ × List ℕ × List ℕ
 then_submit z x at = submit_of z.0.session z.1 z.2 x at
 
 -- the clock frame that a command is for
@@ -46,7 +46,7 @@ last_exchanged (x ∷ []) = x ∷ []
 last_exchanged (x ∷ (y ∷ l)) = y ∷ (x ∷ l)
 
 -- the same session but for the numbers a and b exchanged, in queue and capture, and the capture's last two places
-pub record Alike (a b : ℕ) (y z : SubmitAnswered × List ℕ × List ℕ) : Type 0 where
+pub record Alike (a b : ℕ) (y z : Answered ℕ × List ℕ × List ℕ) : Type 0 where
   pub session : y.0.session ≡ z.0.session
   pub queue : waiting y.0.session y.1 ≡ map (exchanged a b) (waiting z.0.session z.1)
   pub capture : recorded y.0.session y.2 ≡ last_exchanged (map (exchanged a b) (recorded z.0.session z.2))
@@ -58,11 +58,11 @@ shallow s =
     with_desk s (desk_of d.number 0 d.dropped d.capturing d.captured)
 
 -- what a call left, after a block that came to a stage and left n commands queued
-abbrev pub then_block : SubmitAnswered × List ℕ × List ℕ → Stage → ℕ → SubmitAnswered × List ℕ × List ℕ
-then_block z x n = (submit_answered z.0.answer (with_stage z.0.session x n), z.1, z.2)
+abbrev pub then_block : Answered ℕ × List ℕ × List ℕ → Stage → ℕ → Answered ℕ × List ℕ × List ℕ
+then_block z x n = (answered z.0.answer (with_stage z.0.session x n), z.1, z.2)
 
 -- the same but for the deepest queue seen
-pub record AlikeButDeepest (y z : SubmitAnswered × List ℕ × List ℕ) : Type 0 where
+pub record AlikeButDeepest (y z : Answered ℕ × List ℕ × List ℕ) : Type 0 where
   pub answer : y.0.answer ≡ z.0.answer
   pub session : shallow y.0.session ≡ shallow z.0.session
   pub queue : waiting y.0.session y.1 ≡ waiting z.0.session z.1

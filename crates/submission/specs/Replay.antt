@@ -1,5 +1,5 @@
 -- Replay. Definitions only.
-use Rattle.std.specs.Prelude.{ℕ, zero, suc, ◌+◌, ◌/◌, true, not, cond, List, eqb, length}
+use Rattle.std.specs.Prelude.{ℕ, zero, suc, ◌+◌, ◌/◌, true, not, cond, List, eqb, length, Result, Ok, Err}
 use Rattle.timeline.specs.declared.QueueRecord.{QueueRecord}
 use Rattle.timeline.specs.declared.Row.{Row}
 use Rattle.timeline.specs.Record.{readable, read_of, record_of, row_of}
@@ -7,15 +7,13 @@ use Rattle.timeline.specs.Store.{row_at, inserted}
 use Rattle.session.specs.declared.Desk.{Desk}
 use Rattle.session.specs.declared.Session.{Session}
 use Rattle.session.specs.declared.Refusal.{Refusal}
-use Rattle.session.specs.declared.Weighed.{Weighed}
 use Rattle.session.specs.Refusal.{number_of, first, unless}
 use Rattle.session.specs.Session.{desk_of, with_queue, turned_away}
 use Rattle.session.specs.WellFormed.{weigh_only}
 use Rattle.submission.specs.declared.Report.{Report}
 use Rattle.submission.specs.declared.ReplayState.{ReplayState}
-use Rattle.submission.specs.declared.ReplayAnswer.{ReplayAnswer}
-use Rattle.submission.specs.declared.ReplayAnswered.{ReplayAnswered}
-use Rattle.submission.specs.Answer.{replay_answered}
+use Rattle.session.specs.declared.Answered.{Answered}
+use Rattle.session.specs.Answer.{answered}
 use Rattle.submission.specs.Weigh.{weigh_command, scales_of, stands_now}
 use Rattle.submission.specs.Submit.{numbered}
 
@@ -34,7 +32,7 @@ abbrev pub report_of : ℕ → ℕ → ℕ → Report
 report_of t f k = record { taken = t; full = f; skipped = k }
 
 -- 21, then as a submission without 16: there is always room
-unfoldable pub weigh_replayed : Session → List ℕ → Row → Weighed
+unfoldable pub weigh_replayed : Session → List ℕ → Row → Result (Unit {0}) Refusal
 weigh_replayed s q x = first (not (readable x)) Refusal.Unreadable (weigh_command (scales_of s q true) (stands_now s (read_of x)) (read_of x))
 
 -- a record is taken at its frame under the next number, without capture and without raising the deepest depth
@@ -70,12 +68,12 @@ replayed s q list zero = record { session = s; queue = q; report = report_of 0 0
 replayed s q list (suc n) = replay_row (replayed s q list n) (row_at list n)
 
 -- it reports what it did
-abbrev pub replay_done : Replaying → ReplayAnswered × List ℕ
-replay_done z = (replay_answered (ReplayAnswer.Replayed z.report) z.session, z.queue)
+abbrev pub replay_done : Replaying → Answered Report × List ℕ
+replay_done z = (answered (Ok z.report) z.session, z.queue)
 
 -- answer and session; queue
-unfoldable pub replay_of : Session → List ℕ → List ℕ → List ℕ → ReplayAnswered × List ℕ
+unfoldable pub replay_of : Session → List ℕ → List ℕ → List ℕ → Answered Report × List ℕ
 replay_of s q c list =
     unless (weigh_only s q c)
-    (λ k. (replay_answered (ReplayAnswer.Refused k) s, q))
+    (λ k. (answered (Err k) s, q))
     (replay_done (replayed s q list (length list / 5)))

@@ -1,5 +1,5 @@
 -- The transition call: it first takes out every queued Transition and its capture record. Definitions only.
-use Rattle.std.specs.Prelude.{ℕ, not, List}
+use Rattle.std.specs.Prelude.{ℕ, not, List, Result}
 use Rattle.counts.specs.declared.SongFrame.{SongFrame}
 use Rattle.timeline.specs.declared.Command.{Command}
 use Rattle.timeline.specs.Store.{Kept}
@@ -8,11 +8,10 @@ use Rattle.transport.specs.declared.At.{At}
 use Rattle.session.specs.declared.Desk.{Desk}
 use Rattle.session.specs.declared.Session.{Session}
 use Rattle.session.specs.declared.Refusal.{Refusal}
-use Rattle.session.specs.declared.Weighed.{Weighed}
 use Rattle.session.specs.Refusal.{first, unless}
 use Rattle.session.specs.Session.{desk_of, with_queue, captured_now}
 use Rattle.session.specs.WellFormed.{well_formed}
-use Rattle.submission.specs.declared.SubmitAnswered.{SubmitAnswered}
+use Rattle.session.specs.declared.Answered.{Answered}
 use Rattle.submission.specs.Weigh.{weigh_command, scales_of, stands_now, capture_room}
 use Rattle.submission.specs.Submit.{taken, refused}
 
@@ -31,14 +30,14 @@ cleared s q c =
     with_queue s (cleared_queue s q).count (desk_of d.number d.deepest d.dropped d.capturing (cleared_capture s q c).count)
 
 -- 1, then the command, with 15 and 16 weighed as if the older ones had gone
-unfoldable pub weigh_transition : Session → List ℕ → List ℕ → SongFrame → Weighed
+unfoldable pub weigh_transition : Session → List ℕ → List ℕ → SongFrame → Result (Unit {0}) Refusal
 weigh_transition s q c f =
     let z : Session = cleared s q c in
     first (not (well_formed s q c)) Refusal.NotWellFormed
     (weigh_command (scales_of z (cleared_queue s q).words (capture_room z)) (stands_now z (Command.Transition f)) (Command.Transition f))
 
 -- refused, it drops none
-unfoldable pub transition_of : Session → List ℕ → List ℕ → SongFrame → At → SubmitAnswered × List ℕ × List ℕ
+unfoldable pub transition_of : Session → List ℕ → List ℕ → SongFrame → At → Answered ℕ × List ℕ × List ℕ
 transition_of s q c f at =
     unless (weigh_transition s q c f)
     (refused s q c)

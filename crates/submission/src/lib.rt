@@ -1,28 +1,26 @@
 //! The calls that queue commands: submit, transition and replay.
 #![tactic(auto)]
 
-ghost use Rattle.std.specs.Prelude.{◌≡◌, true, cond, List, ℕ, ◌+◌, ◌-◌, ◌*◌, ◌^◌, ◌≤◌, ◌<◌, max, length};
+ghost use Rattle.std.specs.Prelude.{◌≡◌, true, cond, List, ℕ, ◌+◌, ◌-◌, ◌*◌, ◌^◌, ◌≤◌, ◌<◌, max, length, Ok, Err};
 ghost use Rattle.timeline.specs.Command.{gain_ok};
 ghost use Rattle.timeline.specs.Store.{put_row};
 ghost use Rattle.timeline.specs.Queue.{stingers};
 ghost use Rattle.session.specs.declared.Session.{Session};
-ghost use Rattle.session.specs.declared.Weighed.{Weighed};
 ghost use Rattle.session.specs.Session.{desk_of, with_queue, captured_now, turned_away};
 ghost use Rattle.session.specs.Refusal.{unless};
 ghost use Rattle.session.specs.WellFormed.{well_formed};
-ghost use Rattle.submission.specs.declared.SubmitAnswer.{SubmitAnswer};
-ghost use Rattle.submission.specs.declared.SubmitAnswered.{SubmitAnswered};
-ghost use Rattle.submission.specs.declared.ReplayAnswered.{ReplayAnswered};
-ghost use Rattle.submission.specs.Answer.{submit_answered};
+ghost use Rattle.session.specs.declared.Answered.{Answered};
+ghost use Rattle.session.specs.Answer.{answered};
 ghost use Rattle.submission.specs.Weigh.{weigh_command, capture_room, scales_of, stands_now};
 ghost use Rattle.submission.specs.Submit.{weigh_submit, taken, submit_of};
 ghost use Rattle.submission.specs.Transition.{cleared_queue, cleared_capture, cleared, weigh_transition, transition_of};
 ghost use Rattle.submission.specs.Replay.{standing, weigh_replayed, taken_by, skipped_by, replay_row, replay_of};
 ghost use Rattle.submission.specs.Ready.{Countable, RowReady};
+ghost use Rattle.submission.specs.declared.Report.{Report};
 
 use bank::Stands;
 use counts::SongFrame;
-use session::{Desk, Refusal, Session, Weighed};
+use session::{Answered, Desk, Refusal, Session};
 use timeline::{Command, QueueRecord, Reading, Row, Submission};
 use transport::At;
 
@@ -41,19 +39,6 @@ pub struct Scales {
     pub number: u64,
 }
 
-/// The answer of a submission and of a transition: the submission number.
-#[derive(Clone, Copy)]
-pub enum SubmitAnswer {
-    Queued(u64),
-    Refused(Refusal),
-}
-
-#[derive(Clone, Copy)]
-pub struct SubmitAnswered {
-    pub answer: SubmitAnswer,
-    pub session: Session,
-}
-
 /// What a replay did with its records: taken, queue-full, otherwise skipped.
 #[repr(C)]
 #[derive(Clone, Copy)]
@@ -61,18 +46,6 @@ pub struct Report {
     pub taken: usize,
     pub full: usize,
     pub skipped: usize,
-}
-
-#[derive(Clone, Copy)]
-pub enum ReplayAnswer {
-    Replayed(Report),
-    Refused(Refusal),
-}
-
-#[derive(Clone, Copy)]
-pub struct ReplayAnswered {
-    pub answer: ReplayAnswer,
-    pub session: Session,
 }
 
 /// Where a replay stands: the session, and what was done with the records so far.
@@ -85,39 +58,39 @@ pub struct ReplayState {
 // ---- weighing a command
 
 /// 14, 22, 11, 12, 13, 15, 16, 17, 18: a command, against what its handle stands for and the scales.
-fn weigh_command(w: Scales, stands: Stands, x: Command) -> Weighed
+fn weigh_command(w: Scales, stands: Stands, x: Command) -> Result<(), Refusal>
     ensures { result ≡ weigh_command w stands x }
 {
     if !x.gain_ok() {
-        return Weighed::Refused(Refusal::BadGain);
+        return Err(Refusal::BadGain);
     }
     if x.is_senseless() {
-        return Weighed::Refused(Refusal::SenselessLoop);
+        return Err(Refusal::SenselessLoop);
     }
     if bank::is_stale(stands) {
-        return Weighed::Refused(Refusal::Stale);
+        return Err(Refusal::Stale);
     }
     let claim = x.claim();
     if bank::wrong_kind(claim, stands) {
-        return Weighed::Refused(Refusal::WrongKind);
+        return Err(Refusal::WrongKind);
     }
     if bank::wrong_rate(w.rate, stands) {
-        return Weighed::Refused(Refusal::WrongRate);
+        return Err(Refusal::WrongRate);
     }
     if w.capacity <= w.depth {
-        return Weighed::Refused(Refusal::QueueFull);
+        return Err(Refusal::QueueFull);
     }
     if !w.room {
-        return Weighed::Refused(Refusal::CaptureFull);
+        return Err(Refusal::CaptureFull);
     }
     let voice = timeline::takes_voice(claim);
     if voice & (w.stingers == 16) {
-        return Weighed::Refused(Refusal::VoicesTaken);
+        return Err(Refusal::VoicesTaken);
     }
     if w.number == LAST {
-        return Weighed::Refused(Refusal::NumbersSpent);
+        return Err(Refusal::NumbersSpent);
     }
-    Weighed::Fine
+    Ok(())
 }
 
 /// Capture on and full: no room.
@@ -158,11 +131,11 @@ fn stands_now(s: Session, x: Command) -> Stands
 // ---- the ordinary submission
 
 /// 1, then the command.
-fn weigh_submit(s: Session, queue: &[u64], capture: &[u64], x: Submission) -> Weighed
+fn weigh_submit(s: Session, queue: &[u64], capture: &[u64], x: Submission) -> Result<(), Refusal>
     ensures { result ≡ weigh_submit s queue.now capture.now x }
 {
     if !session::well_formed(s, queue, capture) {
-        return Weighed::Refused(Refusal::NotWellFormed);
+        return Err(Refusal::NotWellFormed);
     }
     let command = x.command();
     let room = capture_room(s);
@@ -191,9 +164,9 @@ fn append(capture: &mut [u64], d: Desk, x: Row) -> usize
 }
 
 /// A submission takes the next number and raises the deepest depth; a capture that is on records it.
-fn take(s: Session, queue: &mut [u64], capture: &mut [u64], x: Command, at: At) -> SubmitAnswered
-    requires { (well_formed s queue.old capture.old ≡ true) × (weigh_command (scales_of s queue.old (capture_room s)) (stands_now s x) x ≡ Weighed.Fine) }
-    ensures { ◌≡◌ {A = SubmitAnswered × List ℕ × List ℕ} (result, queue.new, capture.new) (taken s queue.old capture.old x at) }
+fn take(s: Session, queue: &mut [u64], capture: &mut [u64], x: Command, at: At) -> Answered<u64>
+    requires { (well_formed s queue.old capture.old ≡ true) × (weigh_command (scales_of s queue.old (capture_room s)) (stands_now s x) x ≡ Ok tt) }
+    ensures { ◌≡◌ {A = Answered ℕ × List ℕ × List ℕ} (result, queue.new, capture.new) (taken s queue.old capture.old x at) }
 {
     let d = s.desk;
     let transport = s.stage.playhead.transport;
@@ -217,19 +190,19 @@ fn take(s: Session, queue: &mut [u64], capture: &mut [u64], x: Command, at: At) 
     let mut s = s;
     s.queued = depth;
     s.desk = d;
-    SubmitAnswered {
-        answer: SubmitAnswer::Queued(number),
+    Answered {
+        answer: Ok(number),
         session: s,
     }
 }
 
 /// Refused, it leaves all but the dropped count.
-fn refuse(s: Session, k: Refusal) -> SubmitAnswered
-    ensures { result ≡ submit_answered (SubmitAnswer.Refused k) (turned_away k s) }
+fn refuse(s: Session, k: Refusal) -> Answered<u64>
+    ensures { result ≡ answered (Err k) (turned_away k s) }
 {
     let session = session::turned_away(k, s);
-    SubmitAnswered {
-        answer: SubmitAnswer::Refused(k),
+    Answered {
+        answer: Err(k),
         session,
     }
 }
@@ -241,13 +214,13 @@ pub fn submit(
     capture: &mut [u64],
     x: Submission,
     at: At,
-) -> SubmitAnswered
-    ensures { ◌≡◌ {A = SubmitAnswered × List ℕ × List ℕ} (result, queue.new, capture.new) (submit_of s queue.old capture.old x at) }
+) -> Answered<u64>
+    ensures { ◌≡◌ {A = Answered ℕ × List ℕ × List ℕ} (result, queue.new, capture.new) (submit_of s queue.old capture.old x at) }
 {
     let weighed = weigh_submit(s, &queue[..], &capture[..], x);
     match weighed {
-        Weighed::Fine => take(s, queue, capture, x.command(), at),
-        Weighed::Refused(k) => refuse(s, k),
+        Ok(()) => take(s, queue, capture, x.command(), at),
+        Err(k) => refuse(s, k),
     }
 }
 
@@ -292,11 +265,11 @@ fn clear(s: Session, queue: &mut [u64], capture: &mut [u64]) -> Session
 }
 
 /// 1, then the command, with 15 and 16 weighed as if the older ones had gone.
-fn weigh_transition(s: Session, queue: &[u64], capture: &[u64], f: SongFrame) -> Weighed
+fn weigh_transition(s: Session, queue: &[u64], capture: &[u64], f: SongFrame) -> Result<(), Refusal>
     ensures { result ≡ weigh_transition s queue.now capture.now f }
 {
     if !session::well_formed(s, queue, capture) {
-        return Weighed::Refused(Refusal::NotWellFormed);
+        return Err(Refusal::NotWellFormed);
     }
     let z = cleared(s, queue, capture);
     let room = capture_room(z);
@@ -312,30 +285,30 @@ pub fn transition(
     capture: &mut [u64],
     f: SongFrame,
     at: At,
-) -> SubmitAnswered
-    ensures { ◌≡◌ {A = SubmitAnswered × List ℕ × List ℕ} (result, queue.new, capture.new) (transition_of s queue.old capture.old f at) }
+) -> Answered<u64>
+    ensures { ◌≡◌ {A = Answered ℕ × List ℕ × List ℕ} (result, queue.new, capture.new) (transition_of s queue.old capture.old f at) }
 {
     let weighed = weigh_transition(s, &queue[..], &capture[..], f);
     match weighed {
-        Weighed::Fine => {
+        Ok(()) => {
             let z = clear(s, &mut queue[..], &mut capture[..]);
             take(z, queue, capture, Command::Transition(f), at)
         }
-        Weighed::Refused(k) => refuse(s, k),
+        Err(k) => refuse(s, k),
     }
 }
 
 // ---- replay
 
 /// 21, then as a submission without 16: there is always room.
-pub fn weigh_replayed(s: Session, queue: &[u64], x: Row) -> Weighed
+pub fn weigh_replayed(s: Session, queue: &[u64], x: Row) -> Result<(), Refusal>
     requires { (s.queued * 5 ≤ length queue.now) × (stingers queue.now s.queued + s.stage.sound.voices.count ≤ 16) }
     ensures { result ≡ weigh_replayed s queue.now x }
 {
     let reading = timeline::read(x);
     match reading {
-        Reading::Unreadable => Weighed::Refused(Refusal::Unreadable),
-        Reading::GainRefused => Weighed::Refused(Refusal::BadGain),
+        Reading::Unreadable => Err(Refusal::Unreadable),
+        Reading::GainRefused => Err(Refusal::BadGain),
         Reading::Record(r) => {
             let command = r.command;
             let scales = scales_of(s, queue, true);
@@ -397,8 +370,8 @@ fn replay_record(z: ReplayState, queue: &mut [u64], r: QueueRecord) -> ReplaySta
     let stands = stands_now(s, command);
     let weighed = weigh_command(scales, stands, command);
     match weighed {
-        Weighed::Fine => take_recorded(z, queue, r),
-        Weighed::Refused(k) => skip(z, k),
+        Ok(()) => take_recorded(z, queue, r),
+        Err(k) => skip(z, k),
     }
 }
 
@@ -416,12 +389,12 @@ pub fn replay_row(z: ReplayState, queue: &mut [u64], x: Row) -> ReplayState
 }
 
 /// Replay takes records in order at their frames; refused ones are skipped.
-pub fn replay(s: Session, queue: &mut [u64], capture: &[u64], list: &[u64]) -> ReplayAnswered
-    ensures { ◌≡◌ {A = ReplayAnswered × List ℕ} (result, queue.new) (replay_of s queue.old capture.now list.now) }
+pub fn replay(s: Session, queue: &mut [u64], capture: &[u64], list: &[u64]) -> Answered<Report>
+    ensures { ◌≡◌ {A = Answered Report × List ℕ} (result, queue.new) (replay_of s queue.old capture.now list.now) }
 {
-    if let Weighed::Refused(k) = session::weigh_only(s, &queue[..], capture) {
-        return ReplayAnswered {
-            answer: ReplayAnswer::Refused(k),
+    if let Err(k) = session::weigh_only(s, &queue[..], capture) {
+        return Answered {
+            answer: Err(k),
             session: s,
         };
     }
@@ -440,8 +413,8 @@ pub fn replay(s: Session, queue: &mut [u64], capture: &[u64], list: &[u64]) -> R
     }
     let report = z.report;
     let session = z.session;
-    ReplayAnswered {
-        answer: ReplayAnswer::Replayed(report),
+    Answered {
+        answer: Ok(report),
         session,
     }
 }

@@ -1,15 +1,14 @@
 //! The sheet: a line for each block and one for each thing that the guide does.
 ghost use Rattle.std.specs.Prelude.{◌≤◌};
 
+use control::PerformanceSnapshot;
 use crate::score::Cue;
-use clips::LoadAnswer;
-use control::{SnapshotAnswer, StopAnswer};
 use counts::Handle;
 use print::{column, number, text};
-use session::{Answer, Session};
+use session::{Refusal, Session};
 use stage::{HOUSE, Tail};
 use std::io;
-use submission::ReplayAnswer;
+use submission::Report;
 use timeline::Submission;
 use transport::{At, TransportState};
 
@@ -33,10 +32,10 @@ pub fn mode(rt: &impl Print, m: u32) -> io::Result<()> {
     text(rt, b"\n> enter as tono")
 }
 
-pub fn loaded(rt: &impl Print, a: LoadAnswer) -> io::Result<()> {
+pub fn loaded(rt: &impl Print, a: Result<Handle, Refusal>) -> io::Result<()> {
     match a {
-        LoadAnswer::Loaded(h) => loaded_as(rt, h),
-        LoadAnswer::Refused(k) => print::refused(rt, k),
+        Ok(h) => loaded_as(rt, h),
+        Err(k) => print::refused(rt, k),
     }
 }
 
@@ -47,27 +46,27 @@ fn loaded_as(rt: &impl Print, h: Handle) -> io::Result<()> {
     print::handle(rt, h)
 }
 
-pub fn started(rt: &impl Print, a: Answer) -> io::Result<()> {
+pub fn started(rt: &impl Print, a: Result<(), Refusal>) -> io::Result<()> {
     text(rt, b"\n> start the capture: ")?;
     print::answer(rt, a)
 }
 
-pub fn stopped(rt: &impl Print, a: StopAnswer) -> io::Result<()> {
+pub fn stopped(rt: &impl Print, a: Result<usize, Refusal>) -> io::Result<()> {
     text(rt, b"\n> stop the capture: ")?;
     print::stop_answer(rt, a)
 }
 
-pub fn replayed(rt: &impl Print, a: ReplayAnswer) -> io::Result<()> {
+pub fn replayed(rt: &impl Print, a: Result<Report, Refusal>) -> io::Result<()> {
     text(rt, b"\n> replay what was captured: ")?;
     print::replay_answer(rt, a)
 }
 
-pub fn snapshot(rt: &impl Print, a: SnapshotAnswer) -> io::Result<()> {
+pub fn snapshot(rt: &impl Print, a: Result<PerformanceSnapshot, Refusal>) -> io::Result<()> {
     text(rt, b"\n> take a snapshot: ")?;
     print::snapshot_answer(rt, a)
 }
 
-pub fn applied(rt: &impl Print, a: Answer) -> io::Result<()> {
+pub fn applied(rt: &impl Print, a: Result<(), Refusal>) -> io::Result<()> {
     text(rt, b"\n> apply the snapshot: ")?;
     print::answer(rt, a)
 }

@@ -2,9 +2,9 @@
 use crate::score::Cue;
 use crate::{rooms, sheet};
 use bank::Kind;
-use control::{PerformanceSnapshot, SnapshotAnswer};
+use control::PerformanceSnapshot;
 use counts::{Handle, SongFrame};
-use session::Session;
+use session::{Refusal, Session};
 use stage::{AS_TONO, Settings};
 use std::io;
 use timeline::Submission;
@@ -217,10 +217,10 @@ pub fn snapshot(
 }
 
 /// The snapshot that was taken; an opened session's where none was.
-fn taken(a: SnapshotAnswer) -> PerformanceSnapshot {
+fn taken(a: Result<PerformanceSnapshot, Refusal>) -> PerformanceSnapshot {
     match a {
-        SnapshotAnswer::Taken(x) => x,
-        SnapshotAnswer::Refused(_) => PerformanceSnapshot {
+        Ok(x) => x,
+        Err(_) => PerformanceSnapshot {
             position: SongFrame(0),
             state: TransportState::Stopped,
             gain: 1.0,

@@ -6,16 +6,14 @@
 ghost use Rattle.std.specs.Prelude.{◌≡◌};
 
 use bank::Kind;
-use block::BlockAnswered;
-use clips::LoadAnswered;
-use control::{MetricsAnswered, PerformanceSnapshot, SnapshotAnswered, StopAnswered};
+use control::{PerformanceMetrics, PerformanceSnapshot};
 use counts::{Handle, SongFrame};
 use pump::Pumped;
 use remains::SalvageAnswer;
 use ring::{Drained, SampleRing};
 use session::{Answered, Session};
 use stage::Settings;
-use submission::{ReplayAnswered, SubmitAnswered};
+use submission::Report;
 use timeline::Submission;
 use tourfile::TourAnswer;
 use transport::At;
@@ -26,16 +24,16 @@ use transport::At;
 pub struct Twice(pub Answered, pub Answered);
 
 #[derive(Clone, Copy)]
-pub struct LoadTwice(pub LoadAnswered, pub LoadAnswered);
+pub struct LoadTwice(pub Answered<Handle>, pub Answered<Handle>);
 
 #[derive(Clone, Copy)]
-pub struct SubmitTwice(pub SubmitAnswered, pub SubmitAnswered);
+pub struct SubmitTwice(pub Answered<u64>, pub Answered<u64>);
 
 #[derive(Clone, Copy)]
-pub struct ReplayTwice(pub ReplayAnswered, pub ReplayAnswered);
+pub struct ReplayTwice(pub Answered<Report>, pub Answered<Report>);
 
 #[derive(Clone, Copy)]
-pub struct BlockTwice(pub BlockAnswered, pub BlockAnswered);
+pub struct BlockTwice(pub Answered<u64>, pub Answered<u64>);
 
 #[derive(Clone, Copy)]
 pub struct PumpTwice(pub Pumped, pub Pumped);
@@ -50,13 +48,19 @@ pub struct TourTwice(pub TourAnswer, pub TourAnswer);
 pub struct SalvageTwice(pub SalvageAnswer, pub SalvageAnswer);
 
 #[derive(Clone, Copy)]
-pub struct StopTwice(pub StopAnswered, pub StopAnswered);
+pub struct StopTwice(pub Answered<usize>, pub Answered<usize>);
 
 #[derive(Clone, Copy)]
-pub struct SnapshotTwice(pub SnapshotAnswered, pub SnapshotAnswered);
+pub struct SnapshotTwice(
+    pub Answered<PerformanceSnapshot>,
+    pub Answered<PerformanceSnapshot>,
+);
 
 #[derive(Clone, Copy)]
-pub struct MetricsTwice(pub MetricsAnswered, pub MetricsAnswered);
+pub struct MetricsTwice(
+    pub Answered<PerformanceMetrics>,
+    pub Answered<PerformanceMetrics>,
+);
 
 // ---- the calls that change the bank
 

@@ -12,12 +12,12 @@ fill-requires c =
     let x = c.args.stage.sound.voices.table in
     let places : length x ≡ 16 = omega arith in
     let number : c.args.desk.number < 2 ^ 64 = omega (arith, c.well_formed.1.1.1.1.0) in
-    fillable (of_parts _ _ _ _ c.args.desk) _ _ _ _ (accepted _ _ _ _ _ (sym c.weigh_block-weighed.ensures ∙ c.in-Fine.is)) places number
+    fillable (of_parts _ _ _ _ c.args.desk) _ _ _ _ (accepted _ _ _ _ _ (sym c.weigh_block-weighed.ensures ∙ c.in-Ok.is)) places number
 
-pub returns-in-Fine : goal.returns-in-Fine
-returns-in-Fine c =
+pub returns-in-Ok : goal.returns-in-Ok
+returns-in-Ok c =
     c.fill.ensures _
-    ∙ sym (block_done_law _ _ _ _ _ (accepted _ _ _ _ _ (sym c.weigh_block-weighed.ensures ∙ c.in-Fine.is)))
+    ∙ sym (block_done_law _ _ _ _ _ (accepted _ _ _ _ _ (sym c.weigh_block-weighed.ensures ∙ c.in-Ok.is)))
 
-pub returns-in-Refused : goal.returns-in-Refused
-returns-in-Refused c = sym (block_refused _ _ _ _ _ _ (sym c.weigh_block-weighed.ensures ∙ c.in-Refused.is))
+pub returns-in-Err : goal.returns-in-Err
+returns-in-Err c = sym (block_refused _ _ _ _ _ _ (sym c.weigh_block-weighed.ensures ∙ c.in-Err.is))

@@ -6,11 +6,11 @@ use Rattle.clips.proofs.Loaded.{load_ready, load_done_law}
 use Rattle.clips.proofs.load.Goals as goal
 
 pub load_clip-requires : goal.load_clip-requires
-load_clip-requires c = load_ready _ _ _ _ _ _ _ (sym c.weigh_load-weighed.ensures ∙ c.in-Fine.is)
+load_clip-requires c = load_ready _ _ _ _ _ _ _ (sym c.weigh_load-weighed.ensures ∙ c.in-Ok.is)
 
-pub returns-in-Refused : goal.returns-in-Refused
+pub returns-in-Err : goal.returns-in-Err
 unfolding load_of
-returns-in-Refused c = sym (unless_refused _ _ _ _ (sym c.weigh_load-weighed.ensures ∙ c.in-Refused.is))
+returns-in-Err c = sym (unless_refused _ _ _ _ (sym c.weigh_load-weighed.ensures ∙ c.in-Err.is))
 
-pub returns-in-Fine : goal.returns-in-Fine
-returns-in-Fine c = c.load_clip.ensures ∙ sym (load_done_law _ _ _ _ _ _ _ (sym c.weigh_load-weighed.ensures ∙ c.in-Fine.is))
+pub returns-in-Ok : goal.returns-in-Ok
+returns-in-Ok c = c.load_clip.ensures ∙ sym (load_done_law _ _ _ _ _ _ _ (sym c.weigh_load-weighed.ensures ∙ c.in-Ok.is))

@@ -6,11 +6,11 @@ use Rattle.clips.proofs.Opened.{open_ready, open_done_law}
 use Rattle.clips.proofs.open.Goals as goal
 
 pub open_song-requires : goal.open_song-requires
-open_song-requires c = open_ready _ _ _ _ _ _ _ (sym c.weigh_open-weighed.ensures ∙ c.in-Fine.is)
+open_song-requires c = open_ready _ _ _ _ _ _ _ (sym c.weigh_open-weighed.ensures ∙ c.in-Ok.is)
 
-pub returns-in-Refused : goal.returns-in-Refused
+pub returns-in-Err : goal.returns-in-Err
 unfolding open_of
-returns-in-Refused c = rw c.no_session.ensures (sym (unless_refused _ _ _ _ (sym c.weigh_open-weighed.ensures ∙ c.in-Refused.is)))
+returns-in-Err c = rw c.no_session.ensures (sym (unless_refused _ _ _ _ (sym c.weigh_open-weighed.ensures ∙ c.in-Err.is)))
 
-pub returns-in-Fine : goal.returns-in-Fine
-returns-in-Fine c = c.open_song.ensures ∙ sym (open_done_law _ _ _ _ _ _ _ (sym c.weigh_open-weighed.ensures ∙ c.in-Fine.is))
+pub returns-in-Ok : goal.returns-in-Ok
+returns-in-Ok c = c.open_song.ensures ∙ sym (open_done_law _ _ _ _ _ _ _ (sym c.weigh_open-weighed.ensures ∙ c.in-Ok.is))

@@ -4,10 +4,10 @@ use Rattle.session.proofs.Refuse.{unless_fine, unless_refused}
 use Rattle.control.specs.Snapshot.{snapshot_of}
 use Rattle.control.proofs.snapshot.Goals as goal
 
-pub returns-in-Fine : goal.returns-in-Fine
+pub returns-in-Ok : goal.returns-in-Ok
 unfolding snapshot_of
-returns-in-Fine c = simp c.snapped.ensures (sym (unless_fine _ _ _ (sym c.weigh_only-weighed.ensures ∙ c.in-Fine.is)))
+returns-in-Ok c = simp c.snapped.ensures (sym (unless_fine _ _ _ (sym c.weigh_only-weighed.ensures ∙ c.in-Ok.is)))
 
-pub returns-in-Refused : goal.returns-in-Refused
+pub returns-in-Err : goal.returns-in-Err
 unfolding snapshot_of
-returns-in-Refused c = sym (unless_refused _ _ _ _ (sym c.weigh_only-weighed.ensures ∙ c.in-Refused.is))
+returns-in-Err c = sym (unless_refused _ _ _ _ (sym c.weigh_only-weighed.ensures ∙ c.in-Err.is))

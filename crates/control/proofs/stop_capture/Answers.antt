@@ -6,14 +6,14 @@ use Rattle.control.proofs.Capture.{fine_room}
 use Rattle.control.proofs.stop_capture.Goals as goal
 
 pub copy_records-requires : goal.copy_records-requires
-copy_records-requires c = rw c.captured_now-captured.ensures (fine_room _ _ _ _ (sym c.weigh_stop-weighed.ensures ∙ c.in-Fine.is))
+copy_records-requires c = rw c.captured_now-captured.ensures (fine_room _ _ _ _ (sym c.weigh_stop-weighed.ensures ∙ c.in-Ok.is))
 
-pub returns-in-Fine : goal.returns-in-Fine
+pub returns-in-Ok : goal.returns-in-Ok
 unfolding stop_capture_of
-returns-in-Fine c =
+returns-in-Ok c =
     simp (c.capturing.ensures, c.copy_records.ensures, c.captured_now-captured.ensures)
-    (sym (unless_fine _ _ _ (sym c.weigh_stop-weighed.ensures ∙ c.in-Fine.is)))
+    (sym (unless_fine _ _ _ (sym c.weigh_stop-weighed.ensures ∙ c.in-Ok.is)))
 
-pub returns-in-Refused : goal.returns-in-Refused
+pub returns-in-Err : goal.returns-in-Err
 unfolding stop_capture_of
-returns-in-Refused c = sym (unless_refused _ _ _ _ (sym c.weigh_stop-weighed.ensures ∙ c.in-Refused.is))
+returns-in-Err c = sym (unless_refused _ _ _ _ (sym c.weigh_stop-weighed.ensures ∙ c.in-Err.is))

@@ -1,8 +1,8 @@
 -- `snapped` meets its contract, one answer for each case.
 use Rattle.host.proofs.snapped.Goals as goal
 
-pub returns-in-Taken : goal.returns-in-Taken
-returns-in-Taken c = simp (c.host_of.ensures, c.snapshot_numbers.ensures, c.in-Taken.is)
+pub returns-in-Ok : goal.returns-in-Ok
+returns-in-Ok c = simp (c.host_of.ensures, c.snapshot_numbers.ensures, c.in-Ok.is)
 
-pub returns-in-Refused : goal.returns-in-Refused
-returns-in-Refused c = simp (c.snapshot_refused.ensures, c.number.ensures, c.in-Refused.is)
+pub returns-in-Err : goal.returns-in-Err
+returns-in-Err c = simp (c.snapshot_refused.ensures, c.number.ensures, c.in-Err.is)

@@ -17,16 +17,16 @@ pub returns-then-not-all_named : goal.returns-then-not-all_named
 returns-then-not-all_named c =
     rw c.block_refused.ensures (block_unmatched _ _ _ _ _ (sym (c.all_named.ensures ∙ convert_named c.args.h (omega arith) _ _ _ _ c.loop-i.invariant c.loop-i-test.false) ∙ c.if-not-all_named.true))
 
-pub returns-in-Done : goal.returns-in-Done
-returns-in-Done c =
+pub returns-in-Ok : goal.returns-in-Ok
+returns-in-Ok c =
     rw (c.kept.ensures c.loop-i.bank.clips (convert_numbers c.args.h (omega arith) _ _ _ _ c.loop-i.invariant c.loop-i-test.false))
     (block_matched _ _ _ _ _ _ _ _ _ _ _ _ _ (sym (c.all_named.ensures ∙ convert_named c.args.h (omega arith) _ _ _ _ c.loop-i.invariant c.loop-i-test.false) ∙ c.if-not-all_named.false) (convert_bank c.args.h (omega arith) _ _ _ _ c.loop-i.invariant c.loop-i-test.false) c.stage_of-stage.ensures c.desk_of-desk.ensures
-    c.in-Done.is
+    c.in-Ok.is
     c.make-made.ensures)
 
-pub returns-in-Refused : goal.returns-in-Refused
-returns-in-Refused c =
-    rw (c.block_refused-in-Refused.ensures, c.number.ensures)
+pub returns-in-Err : goal.returns-in-Err
+returns-in-Err c =
+    rw (c.block_refused-in-Err.ensures, c.number.ensures)
     (block_matched _ _ _ _ _ _ _ _ _ _ _ _ _ (sym (c.all_named.ensures ∙ convert_named c.args.h (omega arith) _ _ _ _ c.loop-i.invariant c.loop-i-test.false) ∙ c.if-not-all_named.false) (convert_bank c.args.h (omega arith) _ _ _ _ c.loop-i.invariant c.loop-i-test.false) c.stage_of-stage.ensures c.desk_of-desk.ensures
-    c.in-Refused.is
+    c.in-Err.is
     c.make-made.ensures)

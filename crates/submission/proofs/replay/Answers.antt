@@ -10,9 +10,9 @@ use Rattle.submission.proofs.Ready.{not_refused, row_ready, replayed_more}
 use borrow.Author.Rules.{rules}
 use Rattle.submission.proofs.replay.Goals as goal
 
-pub returns-in-Refused : goal.returns-in-Refused
+pub returns-in-Err : goal.returns-in-Err
 unfolding replay_of
-returns-in-Refused c = sym (unless_refused _ _ _ _ (sym c.weigh_only.ensures ∙ c.in-Refused.is))
+returns-in-Err c = sym (unless_refused _ _ _ _ (sym c.weigh_only.ensures ∙ c.in-Err.is))
 
 pub loop-i-init : goal.loop-i-init
 unfolding replayed

@@ -7,12 +7,12 @@ use Rattle.submission.proofs.submit.Goals as goal
 
 pub take-requires : goal.take-requires
 unfolding weigh_submit
-take-requires c = rw c.command.ensures (not_refused _ _ _ _ (sym c.weigh_submit-weighed.ensures ∙ c.in-Fine.is))
+take-requires c = rw c.command.ensures (not_refused _ _ _ _ (sym c.weigh_submit-weighed.ensures ∙ c.in-Ok.is))
 
-pub returns-in-Fine : goal.returns-in-Fine
+pub returns-in-Ok : goal.returns-in-Ok
 unfolding submit_of
-returns-in-Fine c = rw c.command.ensures at c.take.ensures ∙ sym (unless_fine _ _ _ (sym c.weigh_submit-weighed.ensures ∙ c.in-Fine.is))
+returns-in-Ok c = rw c.command.ensures at c.take.ensures ∙ sym (unless_fine _ _ _ (sym c.weigh_submit-weighed.ensures ∙ c.in-Ok.is))
 
-pub returns-in-Refused : goal.returns-in-Refused
+pub returns-in-Err : goal.returns-in-Err
 unfolding submit_of
-returns-in-Refused c = rw c.refuse.ensures (sym (unless_refused _ _ _ _ (sym c.weigh_submit-weighed.ensures ∙ c.in-Refused.is)))
+returns-in-Err c = rw c.refuse.ensures (sym (unless_refused _ _ _ _ (sym c.weigh_submit-weighed.ensures ∙ c.in-Err.is)))

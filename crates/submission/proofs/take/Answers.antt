@@ -13,19 +13,19 @@ use Rattle.transport.specs.declared.At.{At}
 use Rattle.transport.specs.Deadline.{deadline_of}
 use Rattle.session.specs.declared.Session.{Session}
 use Rattle.session.specs.Session.{desk_of, with_queue}
-use Rattle.submission.specs.declared.SubmitAnswer.{SubmitAnswer}
-use Rattle.submission.specs.declared.SubmitAnswered.{SubmitAnswered}
-use Rattle.submission.specs.Answer.{submit_answered}
+use Rattle.session.specs.declared.Answered.{Answered}
+use Rattle.session.specs.Answer.{answered}
 use Rattle.submission.specs.Submit.{numbered, taken}
 use Rattle.submission.proofs.Ready.{take_gain, take_number, take_queue, take_capture}
 use Rattle.submission.proofs.take.Goals as goal
+use Rattle.std.specs.Prelude.{Ok}
 
 takes : (s : Session) (q c : List ℕ) (x : Command) (at : At) (due : ClockFrame) (w : Row) (q' c' : List ℕ) (captured deepest : ℕ)
     → due ≡ deadline_of s.stage.clock s.stage.playhead.transport at → w ≡ row_of (numbered s due x) → q' ≡ inserted q s.queued w
     → c' ≡ cond s.desk.capturing (put_row c s.desk.captured w) c → captured ≡ cond s.desk.capturing (s.desk.captured + 1) s.desk.captured
     → deepest ≡ max s.desk.deepest (s.queued + 1)
-    → ◌≡◌ {A = SubmitAnswered × List ℕ × List ℕ}
-    (submit_answered (SubmitAnswer.Queued (s.desk.number + 1)) (with_queue s (s.queued + 1) (desk_of (s.desk.number + 1) deepest s.desk.dropped s.desk.capturing captured)), q', c')
+    → ◌≡◌ {A = Answered ℕ × List ℕ × List ℕ}
+    (answered (Ok (s.desk.number + 1)) (with_queue s (s.queued + 1) (desk_of (s.desk.number + 1) deepest s.desk.dropped s.desk.capturing captured)), q', c')
     (taken s q c x at)
 unfolding taken
 takes s q c x at due w q' c' captured deepest e1 e2 e3 e4 e5 e6 = rw (e3, e4, e5, e6, e2, e1)

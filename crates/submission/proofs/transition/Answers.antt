@@ -9,22 +9,22 @@ use Rattle.submission.proofs.transition.Goals as goal
 
 pub clear-z-requires : goal.clear-z-requires
 unfolding weigh_transition
-clear-z-requires c = clear_ready _ _ _ (not_refused _ _ _ _ (sym c.weigh_transition-weighed.ensures ∙ c.in-Fine.is)).0
+clear-z-requires c = clear_ready _ _ _ (not_refused _ _ _ _ (sym c.weigh_transition-weighed.ensures ∙ c.in-Ok.is)).0
 
 pub take-requires : goal.take-requires
 unfolding weigh_transition
 take-requires c =
-    let w = not_refused _ _ _ _ (sym c.weigh_transition-weighed.ensures ∙ c.in-Fine.is) in
+    let w = not_refused _ _ _ _ (sym c.weigh_transition-weighed.ensures ∙ c.in-Ok.is) in
     let e = c.clear-z.ensures in
     rw (ap (λ z. z.0) e, ap (λ z. z.1) e, ap (λ z. z.2) e) (whole _ _ _ (cleared_parts _ _ _ (parts _ _ _ w.0)), w.1)
 
-pub returns-in-Fine : goal.returns-in-Fine
+pub returns-in-Ok : goal.returns-in-Ok
 unfolding transition_of
-returns-in-Fine c =
+returns-in-Ok c =
     let e = c.clear-z.ensures in
     rw (ap (λ z. z.0) e, ap (λ z. z.1) e, ap (λ z. z.2) e) at c.take.ensures
-    ∙ sym (unless_fine _ _ _ (sym c.weigh_transition-weighed.ensures ∙ c.in-Fine.is))
+    ∙ sym (unless_fine _ _ _ (sym c.weigh_transition-weighed.ensures ∙ c.in-Ok.is))
 
-pub returns-in-Refused : goal.returns-in-Refused
+pub returns-in-Err : goal.returns-in-Err
 unfolding transition_of
-returns-in-Refused c = rw c.refuse.ensures (sym (unless_refused _ _ _ _ (sym c.weigh_transition-weighed.ensures ∙ c.in-Refused.is)))
+returns-in-Err c = rw c.refuse.ensures (sym (unless_refused _ _ _ _ (sym c.weigh_transition-weighed.ensures ∙ c.in-Err.is)))

@@ -11,15 +11,15 @@ use Rattle.timeline.specs.Command.{gain_ok}
 use Rattle.timeline.specs.Record.{readable, read_of, reading_of}
 use Rattle.session.specs.declared.Session.{Session}
 use Rattle.session.specs.declared.Refusal.{Refusal}
-use Rattle.session.specs.declared.Weighed.{Weighed}
 use Rattle.session.specs.Refusal.{first}
 use Rattle.submission.specs.Weigh.{weigh_command, scales_of, stands_now}
 use Rattle.submission.specs.Replay.{weigh_replayed}
 use Rattle.submission.proofs.weigh_replayed.Goals as goal
+use Rattle.std.specs.Prelude.{Result, Err}
 
-abbrev answer : Session → List ℕ → Reading → Weighed
-answer s q Reading.Unreadable = Weighed.Refused Refusal.Unreadable
-answer s q Reading.GainRefused = Weighed.Refused Refusal.BadGain
+abbrev answer : Session → List ℕ → Reading → Result (Unit {0}) Refusal
+answer s q Reading.Unreadable = Err Refusal.Unreadable
+answer s q Reading.GainRefused = Err Refusal.BadGain
 answer s q (Reading.Record r) = weigh_command (scales_of s q true) (stands_now s r.command) r.command
 
 module _ (s : Session) (q : List ℕ) (x : Row) where
