@@ -7,6 +7,7 @@ use native.Mathlib.Omega.{arith}
 use native.Mathlib.Decide.{ℕ_discrete}
 use borrow.Author.Tests.{eq-eqb, ne_eqb, eqb-true}
 use lib.Dec.{eqb}
+use Rattle.std.specs.Prelude.{Some}
 use Rattle.counts.specs.Below.{within}
 use Rattle.counts.specs.Handles.{same_handle}
 use Rattle.counts.specs.declared.Handle.{Handle}
@@ -14,7 +15,6 @@ use Rattle.counts.proofs.Truth.{two_ways, never, and_true, and_l, and_r, and_fal
 use Rattle.counts.proofs.Below.{within_is, within_low, within_high}
 use Rattle.bank.specs.declared.Clip.{Clip}
 use Rattle.bank.specs.declared.Bank.{Bank}
-use Rattle.bank.specs.declared.Found.{Found}
 use Rattle.bank.specs.Slots.{used_at, clip_in, clip_of, live, found_of, spent, handle_of, loaded_in, retired_from}
 use Rattle.bank.specs.WellFormed.{bank_ok}
 use Rattle.bank.proofs.Clauses.{Clauses, bank_clip, bank_pair, pair_serials, Alive, live_has, live_is}
@@ -92,7 +92,7 @@ module _ {b : Bank} {room slot : ℕ} {c : Clip} (p : Placed b room slot c) wher
   new_live = live_is (loaded_in b slot c) (handle_of slot c) (record { among = p.among; used = used_here p; serial = ap (λ (d : Clip). d.serial) (clip_here p) })
 
   -- the new handle stands for the clip
-  pub new_found : found_of (loaded_in b slot c) (handle_of slot c) ≡ Found.Live c
+  pub new_found : found_of (loaded_in b slot c) (handle_of slot c) ≡ Some c
   new_found = rw (new_live, clip_here p)
 
   -- every other handle is live or stale as it was

@@ -1,5 +1,5 @@
 -- Slots and handles. Definitions only.
-use Rattle.std.specs.Prelude.{ℕ, ◌+◌, ◌-◌, ◌/◌, ◌%◌, ◌^◌, Bool, true, false, not, ◌&&◌, ◌||◌, cond, eqb, ltb, get_or, set, replicate}
+use Rattle.std.specs.Prelude.{ℕ, ◌+◌, ◌-◌, ◌/◌, ◌%◌, ◌^◌, Bool, true, false, not, ◌&&◌, ◌||◌, cond, eqb, ltb, get_or, set, replicate, Option, Some, None}
 use Rattle.std.specs.Int.Count.{count_trailing_zeros, ones}
 use Rattle.counts.specs.Below.{within}
 use Rattle.counts.specs.declared.Handle.{Handle}
@@ -7,7 +7,6 @@ use Rattle.counts.specs.declared.Claim.{Claim}
 use Rattle.bank.specs.declared.Kind.{Kind}
 use Rattle.bank.specs.declared.Clip.{Clip}
 use Rattle.bank.specs.declared.Bank.{Bank}
-use Rattle.bank.specs.declared.Found.{Found}
 use Rattle.bank.specs.declared.Stands.{Stands}
 
 -- slot i is marked in the number u
@@ -42,9 +41,9 @@ clip_of b h = clip_in b h.slot
 unfoldable pub live : Bank → Handle → Bool
 live b h = ltb h.slot 32 && (used_at b.used h.slot && eqb (clip_of b h).serial h.serial)
 
--- looking a handle up gives its clip, or says that it is stale
-abbrev pub found_of : Bank → Handle → Found
-found_of b h = cond (live b h) (Found.Live (clip_of b h)) Found.Stale
+-- looking a handle up gives its clip; a stale one has none
+abbrev pub found_of : Bank → Handle → Option Clip
+found_of b h = cond (live b h) (Some (clip_of b h)) None
 
 -- a handle is spent once its serial has been given and it is live no more
 unfoldable pub spent : Bank → Handle → Bool

@@ -44,13 +44,6 @@ pub struct Bank {
     pub clips: [Clip; 32],
 }
 
-/// What a handle stands for: a loaded clip, or none any more.
-#[derive(Clone, Copy)]
-pub enum Found {
-    Live(Clip),
-    Stale,
-}
-
 /// What the handle that a command or a voice holds stands for: it holds none, its clip is gone, or a clip of a rate.
 #[derive(Clone, Copy)]
 pub enum Stands {
@@ -197,15 +190,14 @@ pub fn is_live(b: Bank, h: Handle) -> bool
     false
 }
 
-/// Looking a handle up gives its clip, or says that it is stale.
-pub fn find(b: Bank, h: Handle) -> Found
+/// Looking a handle up gives its clip; a stale one has none.
+pub fn find(b: Bank, h: Handle) -> Option<Clip>
     ensures { result ≡ found_of b h }
 {
-    if is_live(b, h) {
-        let c = clip_of(b, h);
-        return Found::Live(c);
+    if !is_live(b, h) {
+        return None;
     }
-    Found::Stale
+    Some(clip_of(b, h))
 }
 
 /// A song's length; a stinger has none.

@@ -168,12 +168,11 @@ impl Row {
     }
 }
 
-/// What reading a row answers: its kind is none of the ten, its gain is one that is refused, or the record.
+/// Why a row is not read: its kind is none of the ten, or its gain is one that is refused.
 #[derive(Clone, Copy)]
-pub enum Reading {
+pub enum Misread {
     Unreadable,
     GainRefused,
-    Record(QueueRecord),
 }
 
 /// A handle in one word: the slot above the serial.
@@ -302,17 +301,17 @@ pub fn record_of(x: Row) -> QueueRecord
     }
 }
 
-/// Reading a row: a kind that is none of the ten, a gain that is refused, or the record, its gain bit for bit.
-pub fn read(x: Row) -> Reading
+/// Reading a row: the record, its gain bit for bit; a kind that is none of the ten and a gain that is refused are errors.
+pub fn read(x: Row) -> Result<QueueRecord, Misread>
     ensures { result ≡ reading_of x }
 {
     if !readable(x) {
-        return Reading::Unreadable;
+        return Err(Misread::Unreadable);
     }
     if !row_gain_ok(x) {
-        return Reading::GainRefused;
+        return Err(Misread::GainRefused);
     }
-    Reading::Record(record_of(x))
+    Ok(record_of(x))
 }
 
 /// The five words of record i.
