@@ -21,7 +21,7 @@ ghost use Rattle.submission.specs.declared.Report.{Report};
 use bank::Stands;
 use counts::SongFrame;
 use session::{Answered, Desk, Refusal, Session};
-use timeline::{Command, QueueRecord, Reading, Row, Submission};
+use timeline::{Command, Misread, QueueRecord, Row, Submission};
 use transport::At;
 
 /// The last number that is given, 2^64 - 1.
@@ -305,11 +305,10 @@ pub fn weigh_replayed(s: Session, queue: &[u64], x: Row) -> Result<(), Refusal>
     requires { (s.queued * 5 ≤ length queue.now) × (stingers queue.now s.queued + s.stage.sound.voices.count ≤ 16) }
     ensures { result ≡ weigh_replayed s queue.now x }
 {
-    let reading = timeline::read(x);
-    match reading {
-        Reading::Unreadable => Err(Refusal::Unreadable),
-        Reading::GainRefused => Err(Refusal::BadGain),
-        Reading::Record(r) => {
+    match timeline::read(x) {
+        Err(Misread::Unreadable) => Err(Refusal::Unreadable),
+        Err(Misread::GainRefused) => Err(Refusal::BadGain),
+        Ok(r) => {
             let command = r.command;
             let scales = scales_of(s, queue, true);
             let stands = stands_now(s, command);
@@ -380,11 +379,10 @@ pub fn replay_row(z: ReplayState, queue: &mut [u64], x: Row) -> ReplayState
     requires { RowReady (standing z queue.old) }
     ensures { standing result queue.new ≡ replay_row (standing z queue.old) x }
 {
-    let reading = timeline::read(x);
-    match reading {
-        Reading::Unreadable => skip(z, Refusal::Unreadable),
-        Reading::GainRefused => skip(z, Refusal::BadGain),
-        Reading::Record(r) => replay_record(z, queue, r),
+    match timeline::read(x) {
+        Err(Misread::Unreadable) => skip(z, Refusal::Unreadable),
+        Err(Misread::GainRefused) => skip(z, Refusal::BadGain),
+        Ok(r) => replay_record(z, queue, r),
     }
 }
 

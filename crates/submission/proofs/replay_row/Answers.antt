@@ -4,10 +4,11 @@ use mathlib.Core.Bool.{true, false}
 use mathlib.Core.Logic.{⊎_elim}
 use Prim.Native.Nat.{ℕ}
 use native.Mathlib.Omega.{arith}
+use Rattle.std.specs.Prelude.{Result, Ok, Err}
 use Rattle.counts.proofs.Truth.{two_ways}
 use Rattle.timeline.specs.declared.QueueRecord.{QueueRecord}
 use Rattle.timeline.specs.declared.Row.{Row}
-use Rattle.timeline.specs.declared.Reading.{Reading}
+use Rattle.timeline.specs.declared.Misread.{Misread}
 use Rattle.timeline.specs.Command.{gain_ok}
 use Rattle.timeline.specs.Record.{readable, read_of, record_of, reading_of}
 use Rattle.session.specs.declared.Refusal.{Refusal}
@@ -17,10 +18,10 @@ use Rattle.submission.specs.Replay.{Replaying, weigh_replayed, taken_by, skipped
 use Rattle.submission.proofs.replay_row.Goals as goal
 
 -- what the code does for each reading
-abbrev answer : Replaying → Reading → Replaying
-answer z Reading.Unreadable = skipped_by z Refusal.Unreadable
-answer z Reading.GainRefused = skipped_by z Refusal.BadGain
-answer z (Reading.Record r) = unless (weigh_command (scales_of z.session z.queue true) (stands_now z.session r.command) r.command) (skipped_by z) (taken_by z r)
+abbrev answer : Replaying → Result QueueRecord Misread → Replaying
+answer z (Err Misread.Unreadable) = skipped_by z Refusal.Unreadable
+answer z (Err Misread.GainRefused) = skipped_by z Refusal.BadGain
+answer z (Ok r) = unless (weigh_command (scales_of z.session z.queue true) (stands_now z.session r.command) r.command) (skipped_by z) (taken_by z r)
 
 -- is what the tests say: of a record,
 reads_record : (z : Replaying) (x : Row) → readable x ≡ true → gain_ok (read_of x) ≡ true → answer z (reading_of x) ≡ replay_row z x
@@ -36,11 +37,11 @@ reads z x =
     (λ (e : readable x ≡ false). rw e refl)
     (two_ways (readable x))
 
-answers : (z : Replaying) (x : Row) (r : Reading) → reading_of x ≡ r → answer z r ≡ replay_row z x
+answers : (z : Replaying) (x : Row) (r : Result QueueRecord Misread) → reading_of x ≡ r → answer z r ≡ replay_row z x
 answers z x r e = ap (answer z) (sym e) ∙ reads z x
 
 -- a record that is read has a gain that 14 allows
-read_gain : (x : Row) (r : QueueRecord) → reading_of x ≡ Reading.Record r → gain_ok r.command ≡ true
+read_gain : (x : Row) (r : QueueRecord) → reading_of x ≡ Ok r → gain_ok r.command ≡ true
 read_gain x r e =
     ⊎_elim
     (λ (a : readable x ≡ true). ⊎_elim
@@ -50,13 +51,13 @@ read_gain x r e =
     (two_ways (readable x))
 
 pub replay_record-requires : goal.replay_record-requires
-replay_record-requires c = (c.requires, read_gain _ _ (sym c.read-reading.ensures ∙ c.in-Record.is))
+replay_record-requires c = (c.requires, read_gain _ _ (sym c.read.ensures ∙ c.in-Ok.is))
 
-pub returns-in-Unreadable : goal.returns-in-Unreadable
-returns-in-Unreadable c = c.skip.ensures _ ∙ answers _ _ _ (sym c.read-reading.ensures ∙ c.in-Unreadable.is)
+pub returns-in-Err-Unreadable : goal.returns-in-Err-Unreadable
+returns-in-Err-Unreadable c = c.skip.ensures _ ∙ answers _ _ _ (sym (rw c.in-Err-Unreadable.field-0-is at c.in-Err-Unreadable.ensures))
 
-pub returns-in-GainRefused : goal.returns-in-GainRefused
-returns-in-GainRefused c = c.skip-in-GainRefused.ensures _ ∙ answers _ _ _ (sym c.read-reading.ensures ∙ c.in-GainRefused.is)
+pub returns-in-Err-GainRefused : goal.returns-in-Err-GainRefused
+returns-in-Err-GainRefused c = c.skip-in-Err-GainRefused.ensures _ ∙ answers _ _ _ (sym (rw c.in-Err-GainRefused.field-0-is at c.in-Err-GainRefused.ensures))
 
-pub returns-in-Record : goal.returns-in-Record
-returns-in-Record c = c.replay_record.ensures ∙ answers _ _ _ (sym c.read-reading.ensures ∙ c.in-Record.is)
+pub returns-in-Ok : goal.returns-in-Ok
+returns-in-Ok c = c.replay_record.ensures ∙ answers _ _ _ (sym c.read.ensures ∙ c.in-Ok.is)
