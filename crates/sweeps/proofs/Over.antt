@@ -1,13 +1,17 @@
 -- A sweep changes its own places, each once, and no other. Assumes nothing.
 use mathlib.Core.Path.{◌≡◌, refl, sym, ap, ◌∙◌}
-use mathlib.Core.List.{List}
+use mathlib.Core.List.{List, [], ◌∷◌, ◌++◌, append_assoc}
 use mathlib.Core.Logic.{◌⊎◌, inl, inr, ⊎_elim}
 use Prim.Native.Nat.{ℕ, zero, suc, ◌+◌, ◌-◌, ◌≤◌, ◌<◌}
 use native.Mathlib.Nat.{eq-or-lt_of_le, eq-zero-or-pos, add-zero}
 use native.Mathlib.Omega.{arith}
-use lib.ListN.{length, get_or, set, length-set}
-use lib.Seq.{get_or-set_same, get_or-set_other, ext_get_or}
+use native.Mathlib.Numerals.{add-one}
+use lib.ListN.{length, get_or, set, drop, replicate, length-set, length-replicate}
+use lib.Seq.{drop-cons, set_at, get_or-set_same, get_or-set_other, ext_get_or}
 use lib.Ieee.{Float, nan}
+use Rattle.std.proofs.lemmas.List.{replicate_more}
+use Rattle.ramp.specs.Number.{zero32}
+use Rattle.sweeps.specs.Adds.{cleared}
 use Rattle.sweeps.specs.Over.{over}
 
 -- before a place, or not
@@ -73,6 +77,18 @@ over_rest f g from a n os l u h =
     over_same g f a (over f from (a - from) os) (n - a) (λ k b c x. h k b (omega arith) x)
     ∙ over_split f from (a - from) a (omega arith) os (n - a)
     ∙ ap (λ k. over f from k os) e
+
+-- a sweep that clears its places fills them with +0.0
+pub over_cleared : (n : ℕ) (os : List Float) → n ≤ length os → over cleared 0 n os ≡ replicate n zero32 ++ drop n os
+unfolding over
+over_cleared zero os h = refl
+over_cleared (suc n) os h =
+    let e : 0 + n ≡ n = omega arith in
+    let l : n < length os = omega arith in
+    rw (e, over_cleared n os (omega arith), drop-cons os n nan l)
+    (set_at (replicate n zero32) (get_or os n nan) (drop (suc n) os) zero32 n (length-replicate n zero32)
+    ∙ sym (append_assoc (replicate n zero32) (zero32 ∷ []) (drop (suc n) os))
+    ∙ ap (λ (l : List Float). l ++ drop (suc n) os) (replicate_more n zero32 ∙ ap (λ (k : ℕ). replicate k zero32) (add-one n)))
 
 -- a sweep after a sweep over the same places
 pub over_again : (f g : ℕ → Float → Float) (n : ℕ) (os : List Float) → n ≤ length os → over f 0 n (over g 0 n os) ≡ over (λ k x. f k (g k x)) 0 n os

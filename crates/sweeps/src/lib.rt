@@ -25,11 +25,7 @@ pub fn clear(out: &mut [f32], to: usize)
     requires { to ≤ length out.old }
     ensures { out.new ≡ over cleared 0 to out.old }
 {
-    let mut k: usize = 0;
-    while k < to {
-        out[k] = 0.0;
-        k += 1;
-    }
+    out[..to].fill(0.0);
 }
 
 /// A part × a gain that stands still is added, from a place to a place.
@@ -37,11 +33,9 @@ fn add_still(pool: &[f32], part: Option<usize>, out: &mut [f32], from: usize, to
     requires { (from ≤ to) × (to ≤ length out.old) × Reads (length pool.now) part to }
     ensures { out.new ≡ over (still_adds pool.now part gain) from (to - from) out.old }
 {
-    let mut k = from;
-    while k < to {
+    for k in from..to {
         let x = share(pool, part, k);
         out[k] = out[k] + x * gain;
-        k += 1;
     }
 }
 
@@ -74,14 +68,12 @@ pub fn add_four(
     requires { (to ≤ length out.old) × (a.at + to ≤ length pool.now) × (b.at + to ≤ length pool.now) × (c.at + to ≤ length pool.now) × (d.at + to ≤ length pool.now) }
     ensures { out.new ≡ over (four_adds pool.now a b c d) 0 to out.old }
 {
-    let mut k: usize = 0;
-    while k < to {
+    for k in 0..to {
         let x = add_stream(pool, a, k, out[k]);
         let y = add_stream(pool, b, k, x);
         let z = add_stream(pool, c, k, y);
         let w = add_stream(pool, d, k, z);
         out[k] = w;
-        k += 1;
     }
 }
 
@@ -101,8 +93,7 @@ fn add_rising(pool: &[f32], part: Option<usize>, out: &mut [f32], frames: usize,
     ensures { (result ≡ ticks_of frames ramp) × (out.new ≡ over (adds pool.now part ramp) 0 (frames * 2) out.old) }
 {
     let mut r = ramp;
-    let mut j: usize = 0;
-    while j < frames {
+    for j in 0..frames {
         let next = rise(r);
         let g = next.value;
         let k = j * 2;
@@ -112,7 +103,6 @@ fn add_rising(pool: &[f32], part: Option<usize>, out: &mut [f32], frames: usize,
         out[k] = out[k] + x * g;
         out[n] = out[n] + y * g;
         r = next;
-        j += 1;
     }
     r
 }
@@ -121,14 +111,8 @@ fn add_rising(pool: &[f32], part: Option<usize>, out: &mut [f32], frames: usize,
 fn rises(ramp: Ramp, frames: usize) -> usize
     ensures { result ≡ min (ramp.remaining - 1) frames }
 {
-    if ramp.remaining == 0 {
-        return 0;
-    }
-    let left = (ramp.remaining - 1) as usize;
-    if left < frames {
-        return left;
-    }
-    frames
+    let left = ramp.remaining.saturating_sub(1) as usize;
+    left.min(frames)
 }
 
 /// A part × a ramp is added to so many frames: first where it moves and does not land, then where its value stays. The ramp that they leave.
@@ -182,8 +166,7 @@ fn add_both_still(
     ensures { (result ≡ ticks_of (to - from) weight) × (out.new ≡ over (still_both house pool.now song tail from gain weight) (from * 2) (to * 2 - from * 2) out.old) }
 {
     let mut w = weight;
-    let mut j = from;
-    while j < to {
+    for j in from..to {
         let next = rise(w);
         let b = next.value;
         let k = j * 2;
@@ -195,7 +178,6 @@ fn add_both_still(
         out[k] = (x * gain + y * b) + out[k];
         out[n] = (z * gain + v * b) + out[n];
         w = next;
-        j += 1;
     }
     w
 }
@@ -205,10 +187,7 @@ fn stays_to(ramp: Ramp, j: usize, frames: usize) -> usize
     requires { j < frames }
     ensures { (j < result) × (result ≤ frames) × (j + 1 < result → ramp.remaining ≡ 0) }
 {
-    if ramp.remaining == 0 {
-        return frames;
-    }
-    j + 1
+    if ramp.remaining == 0 { frames } else { j + 1 }
 }
 
 /// The master and the tail's weight.

@@ -2,7 +2,7 @@
 use mathlib.Core.Path.{ap}
 use native.Mathlib.Omega.{arith}
 use Rattle.sweeps.proofs.Moving.{moving_remaining}
-use Rattle.sweeps.proofs.Both.{both_start, both_turn, both_end}
+use Rattle.sweeps.proofs.Both.{both_start, both_turn}
 use Rattle.sweeps.proofs.Parts.{fewer_read}
 use Rattle.sweeps.proofs.add_both.Goals as goal
 
@@ -16,17 +16,8 @@ add_both_still-w-requires c =
     let e = c.stays_to-to.ensures in
     (omega (arith, e.0), omega (arith, e.1, i.sweeping.same, p.0), fewer_read _ _ _ _ (omega (arith, e.1)) p.1, fewer_read _ _ _ _ (omega (arith, e.1)) p.2, omega (arith, e, moving_remaining _ _ _ _ _ i, p.3))
 
-pub loop-j-smaller : goal.loop-j-smaller
-loop-j-smaller c = omega (arith, c.stays_to-to.ensures, c.loop-j-test.true)
-
 pub loop-j-preserved : goal.loop-j-preserved
 loop-j-preserved c =
     let e = c.stays_to-to.ensures in
     let a = c.add_both_still-w.ensures in
     both_turn _ _ _ _ _ _ _ _ c.loop-j.invariant _ e.0 e.1 _ (ap (λ u. u.ramp) c.tick-t.ensures) e.2 _ a.0 _ a.1
-
-pub shape_of-out : goal.shape_of-out
-shape_of-out c = c.loop-j.invariant.moving.sweeping.same
-
-pub returns : goal.returns
-returns c = both_end _ _ _ _ _ _ _ _ c.loop-j.invariant c.loop-j-test.false

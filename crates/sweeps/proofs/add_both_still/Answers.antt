@@ -1,11 +1,9 @@
 -- `sweeps::add_both_still` meets its contract. Assumes nothing.
 use mathlib.Core.Path.{ap, ◌∙◌}
-use lib.ListN.{length-set}
 use native.Mathlib.Omega.{arith}
 use Rattle.sweeps.specs.Adds.{under_of}
-use Rattle.sweeps.proofs.Moving.{moving_start, moving_remaining, moving_end}
+use Rattle.sweeps.proofs.Moving.{moving_start, moving_remaining}
 use Rattle.sweeps.proofs.Both.{still_turn}
-use Rattle.sweeps.proofs.Parts.{fewer_read}
 use Rattle.sweeps.proofs.add_both_still.Goals as goal
 
 pub loop-j-init : goal.loop-j-init
@@ -14,33 +12,9 @@ loop-j-init c = moving_start _ _ _ _ _ c.requires.0
 pub rise-next-requires : goal.rise-next-requires
 rise-next-requires c = omega (arith, moving_remaining _ _ _ _ _ c.loop-j.invariant, c.loop-j.invariant.sweeping.low, c.loop-j-test.true, c.requires.4)
 
-pub share-x-requires : goal.share-x-requires
-share-x-requires c = fewer_read _ _ _ _ (omega (arith, c.loop-j-test.true)) c.requires.2
-
-pub share-requires : goal.share-requires
-share-requires c = fewer_read _ _ _ _ (omega (arith, c.loop-j-test.true)) c.requires.3
-
-pub share-z-requires : goal.share-z-requires
-share-z-requires c = fewer_read _ _ _ _ (omega (arith, c.loop-j-test.true)) c.requires.2
-
-pub share-requires-in-loop-j : goal.share-requires-in-loop-j
-share-requires-in-loop-j c = fewer_read _ _ _ _ (omega (arith, c.loop-j-test.true)) c.requires.3
-
-pub bounds-out-n : goal.bounds-out-n
-bounds-out-n c = simp length-set (omega (arith, c.loop-j.invariant))
-
-pub bounds-out-n-in-loop-j : goal.bounds-out-n-in-loop-j
-bounds-out-n-in-loop-j c = simp length-set (omega (arith, c.loop-j.invariant))
-
 pub loop-j-preserved : goal.loop-j-preserved
 loop-j-preserved c =
     let s = c.args in
     let y = c.under-y.ensures ∙ ap (under_of s.house s.gain) c.share.ensures in
     let v = c.under-v.ensures ∙ ap (under_of s.house s.gain) c.share-in-loop-j.ensures in
     still_turn s.house s.pool.now s.song s.tail _ _ _ _ _ c.loop-j.invariant c.loop-j-test.true _ _ _ _ c.share-x.ensures y c.share-z.ensures v _ c.rise-next.ensures
-
-pub shape_of-out : goal.shape_of-out
-shape_of-out c = c.loop-j.invariant.sweeping.same
-
-pub returns : goal.returns
-returns c = moving_end _ _ _ _ _ c.loop-j.invariant c.loop-j-test.false

@@ -1,11 +1,7 @@
 -- `sweeps::add_four` meets its contract. Assumes nothing.
-use Prim.Native.Nat.{◌-◌}
 use Rattle.sweeps.specs.Adds.{four_adds}
 use Rattle.sweeps.proofs.Sweeping.{Sweeping}
 use Rattle.sweeps.proofs.add_four.Given as goal
 
 abbrev pub invariant-loop-k : goal.invariant-loop-k
 invariant-loop-k l = Sweeping (four_adds l.pool l.a l.b l.c l.d) 0 l.to l.initial.out l.out l.k
-
-abbrev pub decreases-loop-k : goal.decreases-loop-k
-decreases-loop-k l = l.to - l.k

@@ -2,14 +2,8 @@
 use mathlib.Core.Path.{ap, ◌∙◌}
 use native.Mathlib.Omega.{arith}
 use Rattle.ramp.specs.Ramp.{tick_of}
-use Rattle.sweeps.proofs.Parts.{fewer_read, part_ramp, part_done}
+use Rattle.sweeps.proofs.Parts.{part_ramp, part_done}
 use Rattle.sweeps.proofs.add_part.Goals as goal
-
-pub add_rising-risen-requires : goal.add_rising-risen-requires
-add_rising-risen-requires c = (omega (arith, c.rises-rising.ensures, c.requires.0), fewer_read _ _ _ _ (omega (arith, c.rises-rising.ensures)) c.requires.1, omega (arith, c.rises-rising.ensures))
-
-pub returns-then-rising-frames : goal.returns-then-rising-frames
-returns-then-rising-frames c = rw (← c.if-rising-frames.true) c.add_rising-risen.ensures
 
 pub returns : goal.returns
 returns c =
