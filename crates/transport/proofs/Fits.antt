@@ -7,17 +7,17 @@ use native.Mathlib.Nat.{min-le_right}
 use native.Mathlib.Omega.{arith}
 use borrow.Author.Tests.{le-leb, leb-true, leb-false}
 use lib.Dec.{leb}
+use Rattle.std.specs.Prelude.{Option, Some, None}
 use Rattle.counts.specs.declared.SongFrame.{SongFrame}
 use Rattle.counts.proofs.Truth.{two_ways, and_true, and_l, and_r, cond_both}
 use Rattle.transport.specs.declared.TransportState.{TransportState}
 use Rattle.transport.specs.declared.LoopRange.{LoopRange}
-use Rattle.transport.specs.declared.LoopRange.TheVariants.{Off, Range}
 use Rattle.transport.specs.declared.Transport.{Transport}
 use Rattle.transport.specs.Transport.{is_playing, transport, moved_to, taken_in, wrap_to, wrap_in, wrap_of, cursor_on, land_in, advance_of, step_of, loop_fits, transport_fits, state_of, stop_of, seek_of, loop_of, clear_loop_of}
 use Rattle.transport.proofs.Within.{start_first, end_fits, lands}
 
 -- a song at 0 without a loop fits any length
-pub fresh_fits : (extent : ℕ) (s : TransportState) → transport_fits extent (transport s 0 0 Off 0) ≡ true
+pub fresh_fits : (extent : ℕ) (s : TransportState) → transport_fits extent (transport s 0 0 None 0) ≡ true
 fresh_fits extent s = and_true (le-leb 0 extent (omega arith)) refl
 
 module _ (extent : ℕ) (t : Transport) (h : transport_fits extent t ≡ true) where
@@ -46,7 +46,7 @@ module _ (extent : ℕ) (t : Transport) (h : transport_fits extent t ≡ true) w
   clear_fits = and_true (le-leb t.position.0 extent placed) refl
 
   -- Loop keeps it
-  pub loop_fits_law : (l : LoopRange) → transport_fits extent (loop_of extent l t) ≡ true
+  pub loop_fits_law : (l : Option LoopRange) → transport_fits extent (loop_of extent l t) ≡ true
   loop_fits_law l = go (two_ways (loop_fits extent l))
     where
       go : (loop_fits extent l ≡ true) ⊎ (loop_fits extent l ≡ false) → transport_fits extent (loop_of extent l t) ≡ true
@@ -54,13 +54,13 @@ module _ (extent : ℕ) (t : Transport) (h : transport_fits extent t ≡ true) w
       go (inr e) = rw e h
 
 -- rule a keeps it, over the loop
-wrap_in_law : (house : Bool) (extent : ℕ) (t : Transport) (l : LoopRange) → t.looped ≡ l → transport_fits extent t ≡ true → transport_fits extent (wrap_in house l t) ≡ true
-wrap_in_law house extent t Off e h = h
-wrap_in_law house extent t (Range s e) q h =
-    let fits : loop_fits extent (Range s e) ≡ true = rw q at (loops extent t h) in
-    let at : ℕ = taken_in s.0 e.0 t.position.0 in
-    cond_both (λ (x : Transport). transport_fits extent x ≡ true) (leb e.0 t.position.0) (wrap_to house s.0 e.0 t) t
-    (and_true (le-leb at extent (omega (arith, end_fits extent s e fits, lands s.0 e.0 t.position.0 (start_first extent s e fits)))) (loops extent t h))
+wrap_in_law : (house : Bool) (extent : ℕ) (t : Transport) (l : Option LoopRange) → t.looped ≡ l → transport_fits extent t ≡ true → transport_fits extent (wrap_in house l t) ≡ true
+wrap_in_law house extent t None e h = h
+wrap_in_law house extent t (Some l) q h =
+    let fits : loop_fits extent (Some l) ≡ true = rw q at (loops extent t h) in
+    let at : ℕ = taken_in l.start.0 l.end.0 t.position.0 in
+    cond_both (λ (x : Transport). transport_fits extent x ≡ true) (leb l.end.0 t.position.0) (wrap_to house l.start.0 l.end.0 t) t
+    (and_true (le-leb at extent (omega (arith, end_fits extent l fits, lands l.start.0 l.end.0 t.position.0 (start_first extent l fits)))) (loops extent t h))
     h
 
 -- rule a keeps it
@@ -70,18 +70,18 @@ wrap_fits house extent t h =
     cond_both (λ (x : Transport). transport_fits extent x ≡ true) (is_playing t.state) (wrap_in house t.looped t) t (wrap_in_law house extent t t.looped refl h) h
 
 -- rule b keeps it, over the loop and where the position has risen to p
-land_in_law : (extent p c n : ℕ) (s : TransportState) (l : LoopRange) → loop_fits extent l ≡ true
+land_in_law : (extent p c n : ℕ) (s : TransportState) (l : Option LoopRange) → loop_fits extent l ≡ true
     → transport_fits extent (land_in extent l (transport s p c l n)) ≡ true
-land_in_law extent p c n s Off h = go (two_ways (leb extent p))
+land_in_law extent p c n s None h = go (two_ways (leb extent p))
   where
-    go : (leb extent p ≡ true) ⊎ (leb extent p ≡ false) → transport_fits extent (land_in extent Off (transport s p c Off n)) ≡ true
+    go : (leb extent p ≡ true) ⊎ (leb extent p ≡ false) → transport_fits extent (land_in extent None (transport s p c None n)) ≡ true
     go (inl e) = rw e (and_true (le-leb extent extent (omega arith)) refl)
     go (inr e) = rw e (and_true (le-leb p extent (omega (arith, leb-false extent p e))) refl)
-land_in_law extent p c n s (Range a b) h = go (two_ways (leb b.0 p))
+land_in_law extent p c n s (Some l) h = go (two_ways (leb l.end.0 p))
   where
-    go : (leb b.0 p ≡ true) ⊎ (leb b.0 p ≡ false) → transport_fits extent (land_in extent (Range a b) (transport s p c (Range a b) n)) ≡ true
-    go (inl e) = rw e (and_true (le-leb a.0 extent (omega (arith, start_first extent a b h, end_fits extent a b h))) h)
-    go (inr e) = rw e (and_true (le-leb p extent (omega (arith, leb-false b.0 p e, end_fits extent a b h))) h)
+    go : (leb l.end.0 p ≡ true) ⊎ (leb l.end.0 p ≡ false) → transport_fits extent (land_in extent (Some l) (transport s p c (Some l) n)) ≡ true
+    go (inl e) = rw e (and_true (le-leb l.start.0 extent (omega (arith, start_first extent l h, end_fits extent l h))) h)
+    go (inr e) = rw e (and_true (le-leb p extent (omega (arith, leb-false l.end.0 p e, end_fits extent l h))) h)
 
 -- rule b keeps it
 pub advance_fits : (frames extent : ℕ) (t : Transport) → transport_fits extent t ≡ true → transport_fits extent (advance_of frames extent t) ≡ true

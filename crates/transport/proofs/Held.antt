@@ -6,11 +6,11 @@ use Prim.Native.Nat.{ℕ, ◌+◌, ◌-◌, ◌^◌, ◌≤◌, ◌<◌, min}
 use native.Mathlib.Omega.{arith}
 use borrow.Author.Tests.{leb-true}
 use lib.Dec.{leb, ltb}
+use Rattle.std.specs.Prelude.{Option, Some, None}
 use Rattle.counts.specs.declared.ClockFrame.{ClockFrame}
 use Rattle.counts.specs.declared.SongFrame.{SongFrame}
 use Rattle.counts.proofs.Truth.{two_ways}
 use Rattle.transport.specs.declared.LoopRange.{LoopRange}
-use Rattle.transport.specs.declared.LoopRange.TheVariants.{Off, Range}
 use Rattle.transport.specs.declared.Transport.{Transport}
 use Rattle.transport.specs.Transport.{loop_fits}
 use Rattle.transport.specs.Deadline.{behind, distance_to, song_deadline_of}
@@ -27,22 +27,22 @@ unfolding song_deadline_of
 not_before clock x t h = omega arith
 
 -- 01's second and third case: with start <= t < end and p < end, clock + (end - p) + (t - start); else clock
-abbrev pub due_behind : ℕ → LoopRange → ℕ → ℕ → ℕ
-due_behind clock Off p t = clock
-due_behind clock (Range s e) p t = cond (leb s.0 t && ltb t e.0 && ltb p e.0) (clock + (e.0 - p) + (t - s.0)) clock
+abbrev pub due_behind : ℕ → Option LoopRange → ℕ → ℕ → ℕ
+due_behind clock None p t = clock
+due_behind clock (Some l) p t = cond (leb l.start.0 t && ltb t l.end.0 && ltb p l.end.0) (clock + (l.end.0 - p) + (t - l.start.0)) clock
 
 -- 01's three cases: t >= p gives clock + t - p, held at 2^64 - 1; else as above
-abbrev pub due : ℕ → LoopRange → ℕ → ℕ → ℕ
+abbrev pub due : ℕ → Option LoopRange → ℕ → ℕ → ℕ
 due clock l p t = cond (leb p t) (min (clock + t - p) (2 ^ 64 - 1)) (due_behind clock l p t)
 
-behind_is : (extent clock p t : ℕ) (l : LoopRange) → clock ≤ 2 ^ 62 → extent ≤ 2 ^ 40 → loop_fits extent l ≡ true
+behind_is : (extent clock p t : ℕ) (l : Option LoopRange) → clock ≤ 2 ^ 62 → extent ≤ 2 ^ 40 → loop_fits extent l ≡ true
     → min (clock + behind l p t) (2 ^ 64 - 1) ≡ due_behind clock l p t
-behind_is extent clock p t Off hc he hl = omega arith
-behind_is extent clock p t (Range s e) hc he hl = go (two_ways (leb s.0 t && ltb t e.0 && ltb p e.0))
+behind_is extent clock p t None hc he hl = omega arith
+behind_is extent clock p t (Some l) hc he hl = go (two_ways (leb l.start.0 t && ltb t l.end.0 && ltb p l.end.0))
   where
-    go : (leb s.0 t && ltb t e.0 && ltb p e.0 ≡ true) ⊎ (leb s.0 t && ltb t e.0 && ltb p e.0 ≡ false)
-        → min (clock + behind (Range s e) p t) (2 ^ 64 - 1) ≡ due_behind clock (Range s e) p t
-    go (inl q) = rw q (omega (arith, hc, he, end_fits extent s e hl, after_start s.0 t e.0 p q, before_end s.0 t e.0 p q, not_past s.0 t e.0 p q))
+    go : (leb l.start.0 t && ltb t l.end.0 && ltb p l.end.0 ≡ true) ⊎ (leb l.start.0 t && ltb t l.end.0 && ltb p l.end.0 ≡ false)
+        → min (clock + behind (Some l) p t) (2 ^ 64 - 1) ≡ due_behind clock (Some l) p t
+    go (inl q) = rw q (omega (arith, hc, he, end_fits extent l hl, after_start l.start.0 t l.end.0 p q, before_end l.start.0 t l.end.0 p q, not_past l.start.0 t l.end.0 p q))
     go (inr q) = rw q (omega (arith, hc))
 
 -- with the clock at most 2^62 and the loop inside a length of at most 2^40, a deadline is as 01's three cases say

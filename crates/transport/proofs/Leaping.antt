@@ -8,12 +8,11 @@ use native.Mathlib.Numerals.{add-one}
 use native.Mathlib.Omega.{arith}
 use lib.Dec.{leb}
 use borrow.Author.Tests.{leb-true, leb-false, le-leb, lt-leb}
+use Rattle.std.specs.Prelude.{Option, Some, None}
 use Rattle.counts.proofs.Truth.{two_ways, lt_or_le, never}
-use Rattle.counts.specs.declared.SongFrame.{SongFrame}
 use Rattle.transport.specs.declared.TransportState.{TransportState}
 use Rattle.transport.specs.declared.TransportState.TheVariants.{Stopped, Playing, Paused}
 use Rattle.transport.specs.declared.LoopRange.{LoopRange}
-use Rattle.transport.specs.declared.LoopRange.TheVariants.{Off, Range}
 use Rattle.transport.specs.declared.Transport.{Transport}
 use Rattle.transport.specs.Transport.{is_playing, transport, moved_to, taken_in, wrap_of, land_in, advance_of, is_past, comes_round, once, step_of}
 use Rattle.transport.specs.Leap.{blindly, leap_of}
@@ -121,14 +120,14 @@ leap_rests extent (suc m) t l h = rw (leap_rests extent m t l h, rests false 0 e
 
 -- without a loop, from position p
 module _ (extent n : ℕ) (low : n < 2 ^ 64) where
-  straight_step : (p : ℕ) → blindly (step_of false 0 extent (transport Playing p 0 Off n)).transport ≡ land_in extent Off (transport Playing (p + 1) 0 Off n)
+  straight_step : (p : ℕ) → blindly (step_of false 0 extent (transport Playing p 0 None n)).transport ≡ land_in extent None (transport Playing (p + 1) 0 None n)
   straight_step p =
       ⊎_elim
       (λ (h : p + 1 < extent). rw (rises false 0 extent p 0 n low h, lt-leb extent (p + 1) h))
       (λ (h : extent ≤ p + 1). rw (ends false 0 extent p 0 n low h, le-leb extent (p + 1) h))
       (lt_or_le (p + 1) extent)
 
-  straight_leaps : (m p c : ℕ) → leap_of extent (suc m) (transport Playing p c Off n) ≡ land_in extent Off (transport Playing (p + suc m) 0 Off n)
+  straight_leaps : (m p c : ℕ) → leap_of extent (suc m) (transport Playing p c None n) ≡ land_in extent None (transport Playing (p + suc m) 0 None n)
   unfolding leap_of
   straight_leaps zero p c = straight_step p
   straight_leaps (suc m) p c =
@@ -136,7 +135,7 @@ module _ (extent n : ℕ) (low : n < 2 ^ 64) where
       rw (straight_leaps m p c)
       (⊎_elim
       (λ (h : p + suc m < extent). rw (lt-leb extent (p + suc m) h) (straight_step (p + suc m) ∙ rw one))
-      (λ (h : extent ≤ p + suc m). rw (le-leb extent (p + suc m) h, le-leb extent (p + suc (suc m)) (omega arith), rests false 0 extent (transport Stopped extent 0 Off n) low refl))
+      (λ (h : extent ≤ p + suc m). rw (le-leb extent (p + suc m) h, le-leb extent (p + suc (suc m)) (omega arith), rests false 0 extent (transport Stopped extent 0 None n) low refl))
       (lt_or_le (p + suc m) extent))
 
 -- so many laps, and one more or none, are so many and one more or none
@@ -144,64 +143,64 @@ laps_add : (n a r k : ℕ) → min (min (n + (a + r)) (2 ^ 64 - 1) + k) (2 ^ 64 
 laps_add n a r k = omega arith
 
 -- with one
-module _ (extent : ℕ) (s e : SongFrame) (some : s.0 < e.0) where
+module _ (extent : ℕ) (l : LoopRange) (some : l.start.0 < l.end.0) where
   -- a frame that rises from w to the end or before it, with so many laps then
   abbrev Risen : ℕ → ℕ → Transport
-  Risen w n = transport Playing (cond (leb e.0 (w + 1)) s.0 (w + 1)) 0 (Range s e) n
+  Risen w n = transport Playing (cond (leb l.end.0 (w + 1)) l.start.0 (w + 1)) 0 (Some l) n
 
   loop_step : (p n : ℕ)
-      → blindly (step_of false 0 extent (transport Playing p 0 (Range s e) n)).transport
-      ≡ Risen (round_to s.0 e.0 p) (min (n + (once (leb e.0 p) + once (leb e.0 (round_to s.0 e.0 p + 1)))) (2 ^ 64 - 1))
+      → blindly (step_of false 0 extent (transport Playing p 0 (Some l) n)).transport
+      ≡ Risen (round_to l.start.0 l.end.0 p) (min (n + (once (leb l.end.0 p) + once (leb l.end.0 (round_to l.start.0 l.end.0 p + 1)))) (2 ^ 64 - 1))
   unfolding step_of wrap_of advance_of is_past comes_round
   loop_step p n =
-      let w : ℕ = taken_in s.0 e.0 p in
+      let w : ℕ = taken_in l.start.0 l.end.0 p in
       ⊎_elim
-      (λ (h : leb e.0 p ≡ true). ⊎_elim (λ (k : leb e.0 (w + 1) ≡ true). rw (h, k)) (λ (k : leb e.0 (w + 1) ≡ false). rw (h, k)) (two_ways (leb e.0 (w + 1))))
-      (λ (h : leb e.0 p ≡ false). ⊎_elim (λ (k : leb e.0 (p + 1) ≡ true). rw (h, k)) (λ (k : leb e.0 (p + 1) ≡ false). rw (h, k)) (two_ways (leb e.0 (p + 1))))
-      (two_ways (leb e.0 p))
+      (λ (h : leb l.end.0 p ≡ true). ⊎_elim (λ (k : leb l.end.0 (w + 1) ≡ true). rw (h, k)) (λ (k : leb l.end.0 (w + 1) ≡ false). rw (h, k)) (two_ways (leb l.end.0 (w + 1))))
+      (λ (h : leb l.end.0 p ≡ false). ⊎_elim (λ (k : leb l.end.0 (p + 1) ≡ true). rw (h, k)) (λ (k : leb l.end.0 (p + 1) ≡ false). rw (h, k)) (two_ways (leb l.end.0 (p + 1))))
+      (two_ways (leb l.end.0 p))
 
   -- before the end rule a does nothing
-  before_step : (v n : ℕ) → v < e.0
-      → blindly (step_of false 0 extent (transport Playing v 0 (Range s e) n)).transport ≡ Risen v (min (n + once (leb e.0 (v + 1))) (2 ^ 64 - 1))
-  before_step v n h = loop_step v n ∙ rw (lt-leb e.0 v h, zero-add (once (leb e.0 (v + 1))))
+  before_step : (v n : ℕ) → v < l.end.0
+      → blindly (step_of false 0 extent (transport Playing v 0 (Some l) n)).transport ≡ Risen v (min (n + once (leb l.end.0 (v + 1))) (2 ^ 64 - 1))
+  before_step v n h = loop_step v n ∙ rw (lt-leb l.end.0 v h, zero-add (once (leb l.end.0 (v + 1))))
 
-  loop_leaps : (m p c n : ℕ) → leap_of extent (suc m) (transport Playing p c (Range s e) n) ≡ gone_round s.0 e.0 (suc m) (transport Playing p c (Range s e) n)
+  loop_leaps : (m p c n : ℕ) → leap_of extent (suc m) (transport Playing p c (Some l) n) ≡ gone_round l.start.0 l.end.0 (suc m) (transport Playing p c (Some l) n)
   unfolding leap_of
   loop_leaps zero p c n =
-      let w : ℕ = round_to s.0 e.0 p in
-      let f = first_round s.0 e.0 some w (round_below s.0 e.0 some p) in
+      let w : ℕ = round_to l.start.0 l.end.0 p in
+      let f = first_round l.start.0 l.end.0 some w (round_below l.start.0 l.end.0 some p) in
       loop_step p n ∙ rw (f.0, f.1)
   loop_leaps (suc m) p c n =
-      let q : ℕ = round_to s.0 e.0 p + suc m in
-      let v : ℕ = round_to s.0 e.0 q in
-      let a : ℕ = once (leb e.0 p) in
-      let x = round_next s.0 e.0 some q in
-      let one : round_to s.0 e.0 p + suc (suc m) ≡ q + 1 = omega arith in
+      let q : ℕ = round_to l.start.0 l.end.0 p + suc m in
+      let v : ℕ = round_to l.start.0 l.end.0 q in
+      let a : ℕ = once (leb l.end.0 p) in
+      let x = round_next l.start.0 l.end.0 some q in
+      let one : round_to l.start.0 l.end.0 p + suc (suc m) ≡ q + 1 = omega arith in
       ap (λ (t : Transport). blindly (step_of false 0 extent t).transport) (loop_leaps m p c n)
-      ∙ before_step v (min (n + (a + rounds_to s.0 e.0 q)) (2 ^ 64 - 1)) (round_below s.0 e.0 some q)
-      ∙ rw (one, x.place, x.count, laps_add n a (rounds_to s.0 e.0 q) (once (leb e.0 (v + 1))))
+      ∙ before_step v (min (n + (a + rounds_to l.start.0 l.end.0 q)) (2 ^ 64 - 1)) (round_below l.start.0 l.end.0 some q)
+      ∙ rw (one, x.place, x.count, laps_add n a (rounds_to l.start.0 l.end.0 q) (once (leb l.end.0 (v + 1))))
 
 -- ---- any transport that plays
 
 module _ (extent m : ℕ) (t : Transport) (plays : is_playing t.state ≡ true) (some : 0 < m) where
   -- without a loop: straight on, and at the length or past it Stopped there
-  pub leap_straight : t.laps < 2 ^ 64 → t.looped ≡ Off → leap_of extent m t ≡ land_in extent Off (moved_to t (t.position.0 + m) 0)
+  pub leap_straight : t.laps < 2 ^ 64 → t.looped ≡ None → leap_of extent m t ≡ land_in extent None (moved_to t (t.position.0 + m) 0)
   leap_straight low off = go m t.state t.looped plays some off
     where
-      go : (m : ℕ) (x : TransportState) (l : LoopRange) → is_playing x ≡ true → 0 < m → l ≡ Off
-          → leap_of extent m (transport x t.position.0 t.cursor.0 l t.laps) ≡ land_in extent Off (transport x (t.position.0 + m) 0 l t.laps)
+      go : (m : ℕ) (x : TransportState) (l : Option LoopRange) → is_playing x ≡ true → 0 < m → l ≡ None
+          → leap_of extent m (transport x t.position.0 t.cursor.0 l t.laps) ≡ land_in extent None (transport x (t.position.0 + m) 0 l t.laps)
       go zero x l h k q = absurd (omega arith)
       go (suc m) Stopped l h k q = absurd (never (sym h))
       go (suc m) Paused l h k q = absurd (never (sym h))
       go (suc m) Playing l h k q = rw q (straight_leaps extent t.laps low m t.position.0 t.cursor.0)
 
   -- with one: round and round
-  pub leap_around : (s e : SongFrame) → s.0 < e.0 → t.looped ≡ Range s e → leap_of extent m t ≡ gone_round s.0 e.0 m t
-  leap_around s e first looped = go m t.state t.looped plays some looped
+  pub leap_around : (l : LoopRange) → l.start.0 < l.end.0 → t.looped ≡ Some l → leap_of extent m t ≡ gone_round l.start.0 l.end.0 m t
+  leap_around l first looped = go m t.state t.looped plays some looped
     where
-      go : (m : ℕ) (x : TransportState) (l : LoopRange) → is_playing x ≡ true → 0 < m → l ≡ Range s e
-          → leap_of extent m (transport x t.position.0 t.cursor.0 l t.laps) ≡ gone_round s.0 e.0 m (transport x t.position.0 t.cursor.0 l t.laps)
-      go zero x l h k q = absurd (omega arith)
-      go (suc m) Stopped l h k q = absurd (never (sym h))
-      go (suc m) Paused l h k q = absurd (never (sym h))
-      go (suc m) Playing l h k q = rw q (loop_leaps extent s e first m t.position.0 t.cursor.0 t.laps)
+      go : (m : ℕ) (x : TransportState) (o : Option LoopRange) → is_playing x ≡ true → 0 < m → o ≡ Some l
+          → leap_of extent m (transport x t.position.0 t.cursor.0 o t.laps) ≡ gone_round l.start.0 l.end.0 m (transport x t.position.0 t.cursor.0 o t.laps)
+      go zero x o h k q = absurd (omega arith)
+      go (suc m) Stopped o h k q = absurd (never (sym h))
+      go (suc m) Paused o h k q = absurd (never (sym h))
+      go (suc m) Playing o h k q = rw q (loop_leaps extent l first m t.position.0 t.cursor.0 t.laps)

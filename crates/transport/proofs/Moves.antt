@@ -6,11 +6,11 @@ use Prim.Native.Nat.{ℕ, ◌+◌, ◌-◌, ◌^◌, ◌≤◌, ◌<◌, min}
 use native.Mathlib.Omega.{arith}
 use borrow.Author.Tests.{le-leb, lt-leb}
 use lib.Dec.{leb, ltb}
+use Rattle.std.specs.Prelude.{Option, Some, None}
 use Rattle.counts.proofs.Truth.{cond_both}
 use Rattle.transport.specs.declared.TransportState.{TransportState}
 use Rattle.transport.specs.declared.TransportState.TheVariants.{Stopped, Playing}
 use Rattle.transport.specs.declared.LoopRange.{LoopRange}
-use Rattle.transport.specs.declared.LoopRange.TheVariants.{Off, Range}
 use Rattle.transport.specs.declared.Transport.{Transport}
 use Rattle.transport.specs.Transport.{is_playing, transport, moved_to, wrap_to, wrap_in, wrap_of, cursor_on, land_in, advance_of, past_end, is_past, comes_round, step_of}
 
@@ -21,26 +21,26 @@ rests house frames extent t l e = let h : min (t.laps + 0) (2 ^ 64 - 1) ≡ t.la
 
 -- Playing without a loop, short of the length: the position rises by 1
 pub rises : (house : Bool) (frames extent p c n : ℕ) → n < 2 ^ 64 → p + 1 < extent
-    → step_of house frames extent (transport Playing p c Off n) ≡ record { transport = transport Playing (p + 1) (cursor_on frames c) Off n; playing = true; cursor = record { 0 = c }; passes = 0 }
+    → step_of house frames extent (transport Playing p c None n) ≡ record { transport = transport Playing (p + 1) (cursor_on frames c) None n; playing = true; cursor = record { 0 = c }; passes = 0 }
 unfolding step_of advance_of wrap_of is_past comes_round
 rises house frames extent p c n l h = let k : min (n + 0) (2 ^ 64 - 1) ≡ n = omega arith in simp (lt-leb extent (p + 1) h, k)
 
 -- Playing without a loop, at the length: there it stops
 pub ends : (house : Bool) (frames extent p c n : ℕ) → n < 2 ^ 64 → extent ≤ p + 1
-    → step_of house frames extent (transport Playing p c Off n) ≡ record { transport = transport Stopped extent (cursor_on frames c) Off n; playing = true; cursor = record { 0 = c }; passes = 0 }
+    → step_of house frames extent (transport Playing p c None n) ≡ record { transport = transport Stopped extent (cursor_on frames c) None n; playing = true; cursor = record { 0 = c }; passes = 0 }
 unfolding step_of advance_of wrap_of is_past comes_round
 ends house frames extent p c n l h = let k : min (n + 0) (2 ^ 64 - 1) ≡ n = omega arith in simp (le-leb extent (p + 1) h, k)
 
 -- the loop starts there
-abbrev pub StartsAt : LoopRange → ℕ → Type 0
-StartsAt Off c = ⊥
-StartsAt (Range s e) c = c ≡ s.0
+abbrev pub StartsAt : Option LoopRange → ℕ → Type 0
+StartsAt None c = ⊥
+StartsAt (Some l) c = c ≡ l.start.0
 
 -- as tono rule a leaves the cursor, or takes it to the loop's start
-wrap_in_law : (t : Transport) (l : LoopRange) → ((wrap_in false l t).cursor.0 ≡ t.cursor.0) ⊎ StartsAt l (wrap_in false l t).cursor.0
-wrap_in_law t Off = inl refl
-wrap_in_law t (Range s e) =
-    cond_both (λ (x : Transport). (x.cursor.0 ≡ t.cursor.0) ⊎ (x.cursor.0 ≡ s.0)) (leb e.0 t.position.0) (wrap_to false s.0 e.0 t) t (inr refl) (inl refl)
+wrap_in_law : (t : Transport) (l : Option LoopRange) → ((wrap_in false l t).cursor.0 ≡ t.cursor.0) ⊎ StartsAt l (wrap_in false l t).cursor.0
+wrap_in_law t None = inl refl
+wrap_in_law t (Some l) =
+    cond_both (λ (x : Transport). (x.cursor.0 ≡ t.cursor.0) ⊎ (x.cursor.0 ≡ l.start.0)) (leb l.end.0 t.position.0) (wrap_to false l.start.0 l.end.0 t) t (inr refl) (inl refl)
 
 -- so the song is read at the cursor, or at the loop's start
 pub read_at : (frames extent : ℕ) (t : Transport)
@@ -53,18 +53,18 @@ read_at frames extent t =
 abbrev Kept : Transport → Transport → Type 0
 Kept t x = (x.state ≡ t.state) × (x.looped ≡ t.looped) × (x.laps ≡ t.laps)
 
-wrap_in_keeps : (house : Bool) (t : Transport) (l : LoopRange) → Kept t (wrap_in house l t)
-wrap_in_keeps house t Off = (refl, refl, refl)
-wrap_in_keeps house t (Range s e) = cond_both (Kept t) (leb e.0 t.position.0) (wrap_to house s.0 e.0 t) t (refl, refl, refl) (refl, refl, refl)
+wrap_in_keeps : (house : Bool) (t : Transport) (l : Option LoopRange) → Kept t (wrap_in house l t)
+wrap_in_keeps house t None = (refl, refl, refl)
+wrap_in_keeps house t (Some l) = cond_both (Kept t) (leb l.end.0 t.position.0) (wrap_to house l.start.0 l.end.0 t) t (refl, refl, refl) (refl, refl, refl)
 
 -- rule a leaves the state, the loop and the laps
 pub wrap_keeps : (house : Bool) (t : Transport) → Kept t (wrap_of house t)
 unfolding wrap_of
 wrap_keeps house t = cond_both (Kept t) (is_playing t.state) (wrap_in house t.looped t) t (wrap_in_keeps house t t.looped) (refl, refl, refl)
 
-short_in : (house : Bool) (t : Transport) (l : LoopRange) → past_end l t.position.0 ≡ false → wrap_in house l t ≡ t
-short_in house t Off h = refl
-short_in house t (Range s e) h = rw h
+short_in : (house : Bool) (t : Transport) (l : Option LoopRange) → past_end l t.position.0 ≡ false → wrap_in house l t ≡ t
+short_in house t None h = refl
+short_in house t (Some l) h = rw h
 
 -- where it does not pass, it moves nothing
 pub short_stays : (house : Bool) (t : Transport) → is_past t ≡ false → wrap_of house t ≡ t
@@ -81,18 +81,18 @@ unfolding step_of
 plays house frames extent t = rw (wrap_keeps house t).0
 
 -- a cursor stays, moves on by 1 or goes to the start of the loop
-abbrev pub Follows : LoopRange → ℕ → ℕ → Type 0
+abbrev pub Follows : Option LoopRange → ℕ → ℕ → Type 0
 Follows l c d = (d ≡ c) ⊎ (d ≡ c + 1) ⊎ StartsAt l d
 
-on_follows : (frames c : ℕ) (l : LoopRange) → Follows l c (cursor_on frames c)
+on_follows : (frames c : ℕ) (l : Option LoopRange) → Follows l c (cursor_on frames c)
 unfolding cursor_on
 on_follows frames c l = cond_both (Follows l c) (ltb c frames) (c + 1) c (inr (inl refl)) (inl refl)
 
-land_follows : (extent p c d n : ℕ) (s : TransportState) (l : LoopRange) → Follows l c d → Follows l c (land_in extent l (transport s p d l n)).cursor.0
-land_follows extent p c d n s Off h =
-    cond_both (λ (x : Transport). Follows Off c x.cursor.0) (leb extent p) (transport Stopped extent d Off n) (transport s p d Off n) h h
-land_follows extent p c d n s (Range a b) h =
-    cond_both (λ (x : Transport). Follows (Range a b) c x.cursor.0) (leb b.0 p) (transport s a.0 a.0 (Range a b) n) (transport s p d (Range a b) n) (inr (inr refl)) h
+land_follows : (extent p c d n : ℕ) (s : TransportState) (l : Option LoopRange) → Follows l c d → Follows l c (land_in extent l (transport s p d l n)).cursor.0
+land_follows extent p c d n s None h =
+    cond_both (λ (x : Transport). Follows None c x.cursor.0) (leb extent p) (transport Stopped extent d None n) (transport s p d None n) h h
+land_follows extent p c d n s (Some l) h =
+    cond_both (λ (x : Transport). Follows (Some l) c x.cursor.0) (leb l.end.0 p) (transport s l.start.0 l.start.0 (Some l) n) (transport s p d (Some l) n) (inr (inr refl)) h
 
 advance_follows : (frames extent : ℕ) (w : Transport) → Follows w.looped w.cursor.0 (advance_of frames extent w).cursor.0
 unfolding advance_of
@@ -107,5 +107,5 @@ advance_follows frames extent w =
 pub moves_on : (house : Bool) (frames extent : ℕ) (t : Transport) → Follows t.looped (step_of house frames extent t).cursor.0 (step_of house frames extent t).transport.cursor.0
 unfolding step_of
 moves_on house frames extent t =
-    subst (λ (l : LoopRange). Follows l (wrap_of house t).cursor.0 (advance_of frames extent (wrap_of house t)).cursor.0) (wrap_keeps house t).1
+    subst (λ l. Follows l (wrap_of house t).cursor.0 (advance_of frames extent (wrap_of house t)).cursor.0) (wrap_keeps house t).1
     (advance_follows frames extent (wrap_of house t))

@@ -2,25 +2,25 @@
 use mathlib.Core.Path.{◌≡◌, refl}
 use mathlib.Core.Bool.{Bool, true, false}
 use Prim.Native.Nat.{ℕ}
+use Rattle.std.specs.Prelude.{Option, Some, None}
 use Rattle.transport.specs.declared.LoopRange.{LoopRange}
-use Rattle.transport.specs.declared.LoopRange.TheVariants.{Off, Range}
 use Rattle.transport.specs.declared.TransportState.{TransportState}
 use Rattle.transport.specs.declared.TransportState.TheVariants.{Playing}
 use Rattle.transport.specs.Transport.{transport, wrap_of, advance_of, is_past, comes_round, step_of}
 use Rattle.transport.specs.Deadline.{distance_to, song_deadline_of}
 
-abbrev range : ℕ → ℕ → LoopRange
-range s e = Range (record { 0 = s }) (record { 0 = e })
+abbrev range : ℕ → ℕ → Option LoopRange
+range s e = Some (record { start = record { 0 = s }; end = record { 0 = e } })
 
 -- the clock frame of song frame t at clock 500 and position p, in any state and with any cursor
-abbrev due_at : TransportState → ℕ → ℕ → LoopRange → ℕ → ℕ
+abbrev due_at : TransportState → ℕ → ℕ → Option LoopRange → ℕ → ℕ
 due_at s c p l t = (song_deadline_of (record { 0 = 500 }) (transport s p c l 0) (record { 0 = t })).0
 
 -- clock 500, position 100: song frame 130 gives 530; 90 gives 500; 90 with loop 80..120 gives 530; 79 with it gives 500. At position 120, 90 gives 500.
 pub deadlines :
     (s : TransportState) (c : ℕ)
-    → (due_at s c 100 Off 130 ≡ 530)
-    × (due_at s c 100 Off 90 ≡ 500)
+    → (due_at s c 100 None 130 ≡ 530)
+    × (due_at s c 100 None 90 ≡ 500)
     × (due_at s c 100 (range 80 120) 90 ≡ 530)
     × (due_at s c 100 (range 80 120) 79 ≡ 500)
     × (due_at s c 120 (range 80 120) 90 ≡ 500)

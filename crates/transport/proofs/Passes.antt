@@ -3,27 +3,16 @@ use mathlib.Core.Path.{◌≡◌, refl, sym, ap, ◌∙◌}
 use mathlib.Core.Bool.{Bool, true, false}
 use Prim.Native.Nat.{ℕ, ◌+◌, ◌-◌, ◌^◌, ◌≤◌, ◌<◌, min}
 use native.Mathlib.Omega.{arith}
-use mir.Val.{bool_byte}
 use lib.Dec.{leb}
+use Rattle.std.specs.Prelude.{Option, Some, None}
 use Rattle.counts.proofs.Truth.{and_false_r, cond_both}
 use Rattle.transport.specs.declared.TransportState.TheVariants.{Stopped}
 use Rattle.transport.specs.declared.LoopRange.{LoopRange}
-use Rattle.transport.specs.declared.LoopRange.TheVariants.{Off, Range}
 use Rattle.transport.specs.declared.Transport.{Transport}
 use Rattle.transport.specs.Transport.{is_playing, transport, moved_to, wrap_of, cursor_on, land_in, advance_of, past_end, is_past, comes_round, once, step_of, loop_fits, looped_by, loop_of}
 use Rattle.transport.proofs.Moves.{wrap_keeps}
 
 -- ---- how many
-
--- a flag's number is the pass that it tells of,
-pub counted : (b : Bool) → bool_byte b ≡ once b
-counted true = refl
-counted false = refl
-
--- and fits beside other passes
-pub pass_fits : (b : Bool) (n : ℕ) → n < 2 ^ 63 → (bool_byte b + n < 2 ^ 64) × (n + bool_byte b < 2 ^ 64)
-pass_fits true n l = (omega arith, omega arith)
-pass_fits false n l = (omega arith, omega arith)
 
 two : (a b : Bool) → once a + once b ≤ 2
 two true true = omega arith
@@ -42,9 +31,9 @@ abbrev Kept : Transport → Transport → Type 0
 Kept t x = (x.looped ≡ t.looped) × (x.laps ≡ t.laps)
 
 -- rule b leaves them, as rule a does
-land_in_keeps : (extent : ℕ) (t : Transport) (l : LoopRange) → t.looped ≡ l → Kept t (land_in extent l t)
-land_in_keeps extent t Off e = cond_both (Kept t) (leb extent t.position.0) (transport Stopped extent t.cursor.0 Off t.laps) t (rw e, refl) (refl, refl)
-land_in_keeps extent t (Range s e) q = cond_both (Kept t) (leb e.0 t.position.0) (moved_to t s.0 s.0) t (refl, refl) (refl, refl)
+land_in_keeps : (extent : ℕ) (t : Transport) (l : Option LoopRange) → t.looped ≡ l → Kept t (land_in extent l t)
+land_in_keeps extent t None e = cond_both (Kept t) (leb extent t.position.0) (transport Stopped extent t.cursor.0 None t.laps) t (rw e, refl) (refl, refl)
+land_in_keeps extent t (Some l) q = cond_both (Kept t) (leb l.end.0 t.position.0) (moved_to t l.start.0 l.start.0) t (refl, refl) (refl, refl)
 
 advance_keeps : (frames extent : ℕ) (t : Transport) → Kept t (advance_of frames extent t)
 unfolding advance_of
@@ -64,16 +53,16 @@ module _ (house : Bool) (frames extent : ℕ) (t : Transport) where
   step_laps = ap (λ n. min (n + (once (is_past t) + once (comes_round (wrap_of house t)))) (2 ^ 64 - 1)) ((advance_keeps frames extent (wrap_of house t)).1 ∙ (wrap_keeps house t).2)
 
   -- without a loop it makes none
-  pub no_pass : t.looped ≡ Off → (step_of house frames extent t).passes ≡ 0
+  pub no_pass : t.looped ≡ None → (step_of house frames extent t).passes ≡ 0
   unfolding step_of is_past comes_round
   no_pass e =
-      let past : (l : LoopRange) (p : ℕ) → l ≡ Off → past_end l p ≡ false = λ l p q. rw q in
+      let past : (l : Option LoopRange) (p : ℕ) → l ≡ None → past_end l p ≡ false = λ l p q. rw q in
       rw (and_false_r (is_playing t.state) (past t.looped t.position.0 e), and_false_r (is_playing (wrap_of house t).state) (past (wrap_of house t).looped ((wrap_of house t).position.0 + 1) ((wrap_keeps house t).1 ∙ e)))
 
 -- ---- without a loop there are no laps, and they are a 64-bit number
 
 pub record Counts (t : Transport) : Type 0 where
-  pub none : t.looped ≡ Off → t.laps ≡ 0
+  pub none : t.looped ≡ None → t.laps ≡ 0
   pub low : t.laps < 2 ^ 64
 
 -- a frame keeps it so,
@@ -81,14 +70,14 @@ pub step_counts : (house : Bool) (frames extent : ℕ) (t : Transport) → Count
 step_counts house frames extent t h =
     record {
       none = λ e.
-          let off : t.looped ≡ Off = sym (step_looped house frames extent t) ∙ e in
+          let off : t.looped ≡ None = sym (step_looped house frames extent t) ∙ e in
           omega (arith, step_laps house frames extent t, h.none off, no_pass house frames extent t off);
       low = omega (arith, step_laps house frames extent t);
     }
 
 -- and so does another loop, taken or not
-pub looped_counts : (l : LoopRange) (t : Transport) → Counts (looped_by l t)
+pub looped_counts : (l : Option LoopRange) (t : Transport) → Counts (looped_by l t)
 looped_counts l t = record { none = λ e. refl; low = omega arith }
 
-pub loop_counts : (extent : ℕ) (l : LoopRange) (t : Transport) → Counts t → Counts (loop_of extent l t)
+pub loop_counts : (extent : ℕ) (l : Option LoopRange) (t : Transport) → Counts t → Counts (loop_of extent l t)
 loop_counts extent l t h = cond_both Counts (loop_fits extent l) (looped_by l t) t (looped_counts l t) h

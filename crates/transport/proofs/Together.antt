@@ -8,11 +8,11 @@ use native.Mathlib.Omega.{arith}
 use borrow.Author.Tests.{leb-true, ltb-true, ltb-false}
 use lib.Dec.{leb, ltb}
 use Rattle.counts.specs.declared.SongFrame.{SongFrame}
+use Rattle.std.specs.Prelude.{Option, Some, None}
 use Rattle.counts.proofs.Truth.{lt_or_le, cond_both}
 use Rattle.transport.specs.declared.TransportState.{TransportState}
 use Rattle.transport.specs.declared.TransportState.TheVariants.{Stopped}
 use Rattle.transport.specs.declared.LoopRange.{LoopRange}
-use Rattle.transport.specs.declared.LoopRange.TheVariants.{Off, Range}
 use Rattle.transport.specs.declared.Transport.{Transport}
 use Rattle.transport.specs.Transport.{is_playing, transport, moved_to, wrap_to, wrap_in, wrap_of, cursor_on, land_in, advance_of, step_of, transport_fits, seek_of}
 use Rattle.transport.specs.Together.{Together}
@@ -20,9 +20,9 @@ use Rattle.transport.proofs.Fits.{placed, wrap_fits}
 
 -- ---- rule a leaves both, or takes both to one place
 
-wrap_in_law : (frames : ℕ) (t : Transport) (l : LoopRange) → Together frames t → Together frames (wrap_in true l t)
-wrap_in_law frames t Off h = h
-wrap_in_law frames t (Range s e) h = cond_both (Together frames) (leb e.0 t.position.0) (wrap_to true s.0 e.0 t) t (inl refl) h
+wrap_in_law : (frames : ℕ) (t : Transport) (l : Option LoopRange) → Together frames t → Together frames (wrap_in true l t)
+wrap_in_law frames t None h = h
+wrap_in_law frames t (Some l) h = cond_both (Together frames) (leb l.end.0 t.position.0) (wrap_to true l.start.0 l.end.0 t) t (inl refl) h
 
 pub wrap_together : (frames : ℕ) (t : Transport) → Together frames t → Together frames (wrap_of true t)
 unfolding wrap_of
@@ -32,7 +32,7 @@ wrap_together frames t h = cond_both (Together frames) (is_playing t.state) (wra
 module _ (frames extent : ℕ) (short : frames ≤ extent) where
   -- cursor c and position p, whatever else
   abbrev At : ℕ → ℕ → Type 0
-  At c p = Together frames (transport Stopped p c Off 0)
+  At c p = Together frames (transport Stopped p c None 0)
 
   -- ---- a seek puts both at one place; past the length it leaves the position at the length and the cursor past it, where the clip has ended
 
@@ -67,14 +67,14 @@ module _ (frames extent : ℕ) (short : frames ≤ extent) where
   ends c d p (inl o) (inr h) l m = absurd (omega (arith, o.0, h.0))
   ends c d p (inr o) h l m = inr (omega (arith, o.0, o.1), short)
 
-  land_together : (c d p n : ℕ) (s : TransportState) (l : LoopRange) → On c d → At c p → p ≤ extent → Together frames (land_in extent l (transport s (p + 1) d l n))
-  land_together c d p n s Off o h low = go (leb extent (p + 1)) refl
+  land_together : (c d p n : ℕ) (s : TransportState) (l : Option LoopRange) → On c d → At c p → p ≤ extent → Together frames (land_in extent l (transport s (p + 1) d l n))
+  land_together c d p n s None o h low = go (leb extent (p + 1)) refl
     where
-      go : (b : Bool) → leb extent (p + 1) ≡ b → Together frames (cond b (transport Stopped extent d Off n) (transport s (p + 1) d Off n))
+      go : (b : Bool) → leb extent (p + 1) ≡ b → Together frames (cond b (transport Stopped extent d None n) (transport s (p + 1) d None n))
       go true e = ends c d p o h low (leb-true extent (p + 1) e)
       go false e = rises c d p o h
-  land_together c d p n s (Range a b) o h low =
-      cond_both (Together frames) (leb b.0 (p + 1)) (transport s a.0 a.0 (Range a b) n) (transport s (p + 1) d (Range a b) n) (inl refl) (rises c d p o h)
+  land_together c d p n s (Some l) o h low =
+      cond_both (Together frames) (leb l.end.0 (p + 1)) (transport s l.start.0 l.start.0 (Some l) n) (transport s (p + 1) d (Some l) n) (inl refl) (rises c d p o h)
 
   advance_together : (t : Transport) → t.position.0 ≤ extent → Together frames t → Together frames (advance_of frames extent t)
   unfolding advance_of

@@ -6,24 +6,23 @@ use native.Mathlib.Nat.{mod-lt}
 use native.Mathlib.Omega.{arith}
 use borrow.Author.Tests.{leb-true, ltb-true}
 use lib.Dec.{leb, ltb}
-use Rattle.counts.specs.declared.SongFrame.{SongFrame}
+use Rattle.std.specs.Prelude.{Option, Some, None}
 use Rattle.counts.proofs.Truth.{and_l, and_r}
 use Rattle.transport.specs.declared.LoopRange.{LoopRange}
-use Rattle.transport.specs.declared.LoopRange.TheVariants.{Off, Range}
 use Rattle.transport.specs.Transport.{loop_fits, loop_holds}
 
 -- a loop that may be set: start < end <= length
-module _ (extent : ℕ) (s e : SongFrame) (h : loop_fits extent (Range s e) ≡ true) where
-  pub start_first : s.0 < e.0
-  start_first = ltb-true s.0 e.0 (and_l (ltb s.0 e.0) (leb e.0 extent) h)
+module _ (extent : ℕ) (l : LoopRange) (h : loop_fits extent (Some l) ≡ true) where
+  pub start_first : l.start.0 < l.end.0
+  start_first = ltb-true l.start.0 l.end.0 (and_l (ltb l.start.0 l.end.0) (leb l.end.0 extent) h)
 
-  pub end_fits : e.0 ≤ extent
-  end_fits = leb-true e.0 extent (and_r (ltb s.0 e.0) (leb e.0 extent) h)
+  pub end_fits : l.end.0 ≤ extent
+  end_fits = leb-true l.end.0 extent (and_r (ltb l.start.0 l.end.0) (leb l.end.0 extent) h)
 
 -- a loop that may be set holds a frame
-pub fits_holds : (extent : ℕ) (l : LoopRange) → loop_fits extent l ≡ true → loop_holds l ≡ true
-fits_holds extent Off h = refl
-fits_holds extent (Range s e) h = and_l (ltb s.0 e.0) (leb e.0 extent) h
+pub fits_holds : (extent : ℕ) (l : Option LoopRange) → loop_fits extent l ≡ true → loop_holds l ≡ true
+fits_holds extent None h = refl
+fits_holds extent (Some l) h = and_l (ltb l.start.0 l.end.0) (leb l.end.0 extent) h
 
 -- start + (position - start) mod (end - start) lies in the loop
 pub lands : (s e p : ℕ) → s < e → s + (p - s) % (e - s) < e

@@ -1,16 +1,15 @@
 -- When a command is due. Definitions only.
-use Rattle.std.specs.Prelude.{ℕ, ◌+◌, ◌-◌, ◌^◌, min, ◌&&◌, cond, leb, ltb}
+use Rattle.std.specs.Prelude.{ℕ, ◌+◌, ◌-◌, ◌^◌, min, ◌&&◌, cond, leb, ltb, Option, Some, None}
 use Rattle.counts.specs.declared.ClockFrame.{ClockFrame}
 use Rattle.counts.specs.declared.SongFrame.{SongFrame}
 use Rattle.transport.specs.declared.At.{At}
 use Rattle.transport.specs.declared.LoopRange.{LoopRange}
-use Rattle.transport.specs.declared.LoopRange.TheVariants.{Off, Range}
 use Rattle.transport.specs.declared.Transport.{Transport}
 
 -- how far ahead a song frame t behind the position p comes round with the loop: if start <= t < end and p < end; else it is due now
-abbrev pub behind : LoopRange → ℕ → ℕ → ℕ
-behind Off p t = 0
-behind (Range s e) p t = cond (leb s.0 t && ltb t e.0 && ltb p e.0) ((e.0 - p) + (t - s.0)) 0
+abbrev pub behind : Option LoopRange → ℕ → ℕ → ℕ
+behind None p t = 0
+behind (Some l) p t = cond (leb l.start.0 t && ltb t l.end.0 && ltb p l.end.0) ((l.end.0 - p) + (t - l.start.0)) 0
 
 -- how far ahead a song frame t is: for t >= p it is t - p
 unfoldable pub distance_to : Transport → ℕ → ℕ
