@@ -7,6 +7,7 @@ use lib.Dec.{eqb}
 use lib.ListN.{length}
 use lib.Ieee.{Float}
 use borrow.Author.Tests.{eqb-false}
+use Rattle.std.specs.Prelude.{Option, Some, None}
 use Rattle.counts.specs.declared.Handle.{Handle}
 use Rattle.counts.specs.declared.Claim.{Claim}
 use Rattle.ramp.specs.declared.Ramp.{Ramp}
@@ -16,7 +17,6 @@ use Rattle.ramp.specs.Tail.{tail_start}
 use Rattle.ramp.proofs.Kept.{tick_falls, tick_target, set_remaining, set_target}
 use Rattle.timeline.specs.declared.Command.{Command}
 use Rattle.timeline.specs.Command.{claim_of, takes_voice}
-use Rattle.transport.specs.declared.LoopRange.{LoopRange}
 use Rattle.transport.specs.declared.TransportState.{TransportState}
 use Rattle.transport.specs.Transport.{cursor_on, transport_fits}
 use Rattle.transport.proofs.Fits.{fresh_fits, state_fits, stop_fits, seek_fits, clear_fits, loop_fits_law, step_fits}
@@ -47,9 +47,9 @@ pub record MasterFits (r : Ramp) : Type 0 where
   pub target : between zero32 two32 r.target ≡ true
 
 -- what holds of the tail's clip and weight, if there is a tail
-abbrev pub OfTail : (Handle → Ramp → Type 0) → Tail → Type 0
-OfTail P Tail.None = Unit {0}
-OfTail P (Tail.Sounding h c w) = P h w
+abbrev pub OfTail : (Handle → Ramp → Type 0) → Option Tail → Type 0
+OfTail P None = Unit {0}
+OfTail P (Some t) = P t.song t.weight
 
 -- of the commands executed so many were swaps and stingers
 abbrev pub Counted : Counters → Type 0
@@ -58,15 +58,15 @@ Counted k = k.swaps + k.fired ≤ k.executed
 -- ---- one frame
 
 pub tail_on_law : (P : Handle → Ramp → Type 0) → ((h : Handle) (w : Ramp) → ((tick_of w).ramp.remaining ≡ 0 → ⊥) → P h w → P h (tick_of w).ramp)
-    → (view : View) (t : Tail) → OfTail P t → OfTail P (tail_on view t)
+    → (view : View) (t : Option Tail) → OfTail P t → OfTail P (tail_on view t)
 unfolding tail_on
-tail_on_law P keeps view Tail.None p = tt
-tail_on_law P keeps view (Tail.Sounding h c w) p = go (eqb (tick_of w).ramp.remaining 0) refl
+tail_on_law P keeps view None p = tt
+tail_on_law P keeps view (Some t) p = go (eqb (tick_of t.weight).ramp.remaining 0) refl
   where
-    go : (b : Bool) → eqb (tick_of w).ramp.remaining 0 ≡ b
-        → OfTail P (cond b Tail.None (Tail.Sounding h (record { 0 = cursor_on (view h).frames c.0 }) (tick_of w).ramp))
+    go : (b : Bool) → eqb (tick_of t.weight).ramp.remaining 0 ≡ b
+        → OfTail P (cond b None (Some (record { song = t.song; cursor = record { 0 = cursor_on (view t.song).frames t.cursor.0 }; weight = (tick_of t.weight).ramp })))
     go true e = tt
-    go false e = keeps h w (eqb-false (tick_of w).ramp.remaining 0 e) p
+    go false e = keeps t.song t.weight (eqb-false (tick_of t.weight).ramp.remaining 0 e) p
 
 module _ (x : Settings) (view : View) (s : Stage) where
   -- a frame moves the clock by one
@@ -122,7 +122,7 @@ module _ (x : Settings) (view : View) (s : Stage) where
 -- Gain, Swap and Stinger alone change the sound, each a part of it
 sounds : (P : Sound → Type 0) (x : Settings) (p : Playhead) (c : Command) (s : Sound) → P s
     → ((g : Float) → P (sound (set_of s.master (clamp_of g) (tween_of master_frames)) s.fade.tail s.voices))
-    → P (sound s.master (tail_from p) s.voices)
+    → P (sound s.master (Some (tail_from p)) s.voices)
     → ((h : Handle) (g : Float) → c ≡ Command.Stinger h g → P (sound s.master s.fade.tail (added_to s.voices (fired_of x.rate h g))))
     → P (sound_by x p c s)
 unfolding sound_by
@@ -160,7 +160,7 @@ fits_by lasts Command.Pause p h = state_fits (lasts p.song) p.transport h Transp
 fits_by lasts Command.Stop p h = stop_fits (lasts p.song) p.transport h
 fits_by lasts (Command.Seek f) p h = seek_fits (lasts p.song) p.transport h f
 fits_by lasts (Command.Transition f) p h = seek_fits (lasts p.song) p.transport h f
-fits_by lasts (Command.Loop a e) p h = loop_fits_law (lasts p.song) p.transport h (LoopRange.Range a e)
+fits_by lasts (Command.Loop a e) p h = loop_fits_law (lasts p.song) p.transport h (Some (record { start = a; end = e }))
 fits_by lasts Command.ClearLoop p h = clear_fits (lasts p.song) p.transport h
 fits_by lasts (Command.Gain g) p h = h
 fits_by lasts (Command.Swap k) p h = fresh_fits (lasts k) TransportState.Playing

@@ -4,6 +4,7 @@ use mathlib.Core.Bool.{true}
 use Prim.Native.Nat.{ℕ, zero, suc, ◌≤◌}
 use native.Mathlib.Omega.{arith}
 use lib.Ieee.{le}
+use Rattle.std.specs.Prelude.{Option}
 use Rattle.laws.specs.Block.{At, block}
 use Rattle.laws.proofs.Lists.{each_all}
 use Rattle.laws.proofs.Stepwise.{block_keeps}
@@ -36,11 +37,11 @@ pub record Exact (w : Ramp) : Type 0 where
   pub left : Left w.remaining w
 
 -- the weight of the tail, if there is one, is in its ranges
-abbrev pub TailWeighs : Tail → Type 0
+abbrev pub TailWeighs : Option Tail → Type 0
 TailWeighs = OfTail (λ h w. Weighs w)
 
 -- it is exactly what is left
-abbrev pub TailLeft : Tail → Type 0
+abbrev pub TailLeft : Option Tail → Type 0
 TailLeft = OfTail (λ h w. Exact w)
 
 ticked : (n : ℕ) (w : Ramp) → 1 ≤ n → n ≤ 1024 → Left n w → Left (tick_of w).ramp.remaining (tick_of w).ramp

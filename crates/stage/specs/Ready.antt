@@ -1,5 +1,5 @@
 -- What a frame and a command ask of a stage; a well formed session has it. Definitions only.
-use Rattle.std.specs.Prelude.{ℕ, ◌+◌, ◌<◌, ◌^◌, ◌≡◌, true}
+use Rattle.std.specs.Prelude.{ℕ, ◌+◌, ◌<◌, ◌^◌, ◌≡◌, true, Option, Some, None}
 use Rattle.timeline.specs.declared.Command.{Command}
 use Rattle.timeline.specs.Command.{claim_of, takes_voice}
 use Rattle.transport.specs.Transport.{loop_fits}
@@ -12,9 +12,9 @@ use Rattle.stage.specs.declared.Counters.{Counters}
 use Rattle.stage.specs.declared.Stage.{Stage}
 
 -- the tail's clip lies in a pool of n samples
-abbrev pub Fades : ℕ → Bank → Tail → Type 0
-Fades n b Tail.None = Unit {0}
-Fades n b (Tail.Sounding h c w) = (h.slot < 32) × LiesIn n (clip_of b h)
+abbrev pub Fades : ℕ → Bank → Option Tail → Type 0
+Fades n b None = Unit {0}
+Fades n b (Some t) = (t.song.slot < 32) × LiesIn n (clip_of b t.song)
 
 -- tail and voices can sound
 pub record Sounding (n : ℕ) (b : Bank) (s : Sound) : Type 0 where

@@ -1,5 +1,5 @@
 -- The sound: rules c and d, and what each command does to it. Definitions only.
-use Rattle.std.specs.Prelude.{ℕ, cond, eqb, Float}
+use Rattle.std.specs.Prelude.{ℕ, cond, eqb, Float, Option, Some, None}
 use Rattle.std.specs.Float.Ieee.{lt}
 use Rattle.counts.specs.Counts.{place_of}
 use Rattle.ramp.specs.declared.Ramp.{Ramp}
@@ -26,7 +26,7 @@ use Rattle.stage.specs.declared.Rendered.{Rendered}
 use Rattle.stage.specs.Mode.{is_house}
 
 -- a master, a tail and voices
-abbrev pub sound : Ramp → Tail → Voices → Sound
+abbrev pub sound : Ramp → Option Tail → Voices → Sound
 sound g t v = record { master = g; fade = record { tail = t }; voices = v }
 
 -- ---- one frame
@@ -44,18 +44,19 @@ abbrev pub tail_share : Settings → Float → Pair → Float → Pair
 tail_share x g p w = cond (is_house x) (times (times p g) w) (times p w)
 
 -- d. plus the share where there is a tail: w ticks, and the tail reads straight on
-unfoldable pub with_tail : Settings → View → Float → Tail → Pair → Pair
-with_tail x view g Tail.None p = p
-with_tail x view g (Tail.Sounding h c w) p = plus p (tail_share x g (pair_at (view h) (place_of c)) (tick_of w).value)
+unfoldable pub with_tail : Settings → View → Float → Option Tail → Pair → Pair
+with_tail x view g None p = p
+with_tail x view g (Some t) p = plus p (tail_share x g (pair_at (view t.song) (place_of t.cursor)) (tick_of t.weight).value)
 
 -- past its clip its cursor stays; it leaves after the frame in which its weight lands on 0
-unfoldable pub tail_on : View → Tail → Tail
-tail_on view Tail.None = Tail.None
-tail_on view (Tail.Sounding h c w) =
-    cond (eqb (tick_of w).ramp.remaining 0) Tail.None (Tail.Sounding h (record { 0 = cursor_on (view h).frames c.0 }) (tick_of w).ramp)
+unfoldable pub tail_on : View → Option Tail → Option Tail
+tail_on view None = None
+tail_on view (Some t) =
+    cond (eqb (tick_of t.weight).ramp.remaining 0) None
+    (Some (record { song = t.song; cursor = record { 0 = cursor_on (view t.song).frames t.cursor.0 }; weight = (tick_of t.weight).ramp }))
 
 -- the tail a frame on, and the pair with its share
-abbrev pub faded_of : Settings → View → Float → Tail → Pair → Faded
+abbrev pub faded_of : Settings → View → Float → Option Tail → Pair → Faded
 faded_of x view g t p = record { fade = record { tail = tail_on view t }; out = with_tail x view g t p }
 
 -- c mixes the voices; d: g = master tick, out = song × g, plus the tail's share, plus the stinger sum, in that order of adding
@@ -80,7 +81,7 @@ master_frames = 256
 
 -- a swap: the old song becomes the tail
 abbrev pub tail_from : Playhead → Tail
-tail_from p = Tail.Sounding p.song p.transport.cursor tail_start
+tail_from p = record { song = p.song; cursor = p.transport.cursor; weight = tail_start }
 
 -- Gain sets the master; Swap: the old song becomes the tail, replacing any tail; Stinger: a voice more; the others leave it
 unfoldable pub sound_by : Settings → Playhead → Command → Sound → Sound
@@ -92,5 +93,5 @@ sound_by x p (Command.Transition f) s = s
 sound_by x p (Command.Loop a e) s = s
 sound_by x p Command.ClearLoop s = s
 sound_by x p (Command.Gain g) s = sound (set_of s.master (clamp_of g) (tween_of master_frames)) s.fade.tail s.voices
-sound_by x p (Command.Swap h) s = sound s.master (tail_from p) s.voices
+sound_by x p (Command.Swap h) s = sound s.master (Some (tail_from p)) s.voices
 sound_by x p (Command.Stinger h g) s = sound s.master s.fade.tail (added_to s.voices (fired_of x.rate h g))

@@ -1,14 +1,13 @@
 //! Everything that a frame or a command changes, and nothing else.
 #![tactic(auto)]
 
-ghost use Rattle.std.specs.Prelude.{◌≡◌, true, cond, ◌<◌, length};
+ghost use Rattle.std.specs.Prelude.{◌≡◌, true, ◌<◌, length};
 ghost use Rattle.counts.specs.Counts.{place_of};
 ghost use Rattle.timeline.specs.Command.{claim_of, takes_voice};
 ghost use Rattle.transport.specs.Transport.{loop_fits};
 ghost use Rattle.bank.specs.Recording.{recording_of, view_of};
 ghost use Rattle.oneshot.specs.Pair.{pair_at};
 ghost use Rattle.oneshot.specs.Sounding.{LiesIn};
-ghost use Rattle.stage.specs.declared.Tail.TheVariants.{None};
 ghost use Rattle.stage.specs.Mode.{is_house};
 ghost use Rattle.stage.specs.Playhead.{moved_of, playhead_by};
 ghost use Rattle.stage.specs.Sound.{only, played_of, tail_share, faded_of, rendered_of, clamp_of, tail_from, sound_by};
@@ -74,85 +73,66 @@ pub struct Moved {
 
 impl Playhead {
     /// Rules a and b. The song has so many frames, and so long an extent.
+    #[tactic(auto, unfolding(crate::specs::Playhead::moved_of))]
     pub fn step(self, settings: Settings, frames: u64, extent: SongFrame) -> Moved
         requires { loop_fits extent.0 self.transport.looped ≡ true }
         ensures { result ≡ moved_of settings frames extent.0 self }
     {
-        let song = self.song;
-        let t = self.transport;
-        let s = t.step(settings.is_house(), frames, extent);
-        let transport = s.transport;
-        let cursor = s.cursor;
+        let s = self.transport.step(settings.is_house(), frames, extent);
         Moved {
-            playhead: Playhead { transport, song },
+            playhead: Playhead {
+                transport: s.transport,
+                ..self
+            },
             playing: s.playing,
-            cursor: cursor,
+            cursor: s.cursor,
             passes: s.passes,
         }
     }
 
     /// What a command does to it.
+    #[tactic(auto, unfolding(crate::specs::Playhead::playhead_by))]
     pub fn execute(self, extent: SongFrame, command: Command) -> Playhead
         ensures { result ≡ playhead_by extent.0 command self }
     {
-        let song = self.song;
         let t = self.transport;
-        match command {
-            Command::Play => Playhead {
-                transport: t.play(),
-                song: song,
-            },
-            Command::Pause => Playhead {
-                transport: t.pause(),
-                song: song,
-            },
-            Command::Stop => Playhead {
-                transport: t.stop(),
-                song: song,
-            },
-            Command::Seek(f) => Playhead {
-                transport: t.seek(f, extent),
-                song: song,
-            },
-            Command::Transition(f) => Playhead {
-                transport: t.seek(f, extent),
-                song: song,
-            },
-            Command::Loop(start, end) => Playhead {
-                transport: t.set_loop(LoopRange::Range(start, end), extent),
-                song: song,
-            },
-            Command::ClearLoop => Playhead {
-                transport: t.clear_loop(),
-                song: song,
-            },
-            Command::Gain(_) => self,
-            Command::Swap(h) => Playhead {
-                transport: Transport {
-                    state: TransportState::Playing,
-                    position: SongFrame(0),
-                    cursor: SongFrame(0),
-                    looped: LoopRange::Off,
-                    laps: 0,
-                },
-                song: h,
-            },
-            Command::Stinger(_, _) => self,
-        }
+        let transport = match command {
+            Command::Play => t.play(),
+            Command::Pause => t.pause(),
+            Command::Stop => t.stop(),
+            Command::Seek(f) | Command::Transition(f) => t.seek(f, extent),
+            Command::Loop(start, end) => t.set_loop(Some(LoopRange { start, end }), extent),
+            Command::ClearLoop => t.clear_loop(),
+            Command::Gain(_) | Command::Stinger(_, _) => t,
+            Command::Swap(song) => {
+                return Playhead {
+                    transport: Transport {
+                        state: TransportState::Playing,
+                        position: SongFrame(0),
+                        cursor: SongFrame(0),
+                        looped: None,
+                        laps: 0,
+                    },
+                    song,
+                };
+            }
+        };
+        Playhead { transport, ..self }
     }
 }
 
 /// The song that a swap left behind: its clip, its cursor and its weight.
 #[derive(Clone, Copy)]
-pub enum Tail {
-    None,
-    Sounding(Handle, SongFrame, Ramp),
+pub struct Tail {
+    pub song: Handle,
+    pub cursor: SongFrame,
+    pub weight: Ramp,
 }
 
 /// The place of the tail.
 #[derive(Clone, Copy)]
 pub struct Fade {
-    pub tail: Tail,
+    pub tail: Option<Tail>,
 }
 
 /// A tail a frame on, and the frame with its share added.
@@ -192,13 +172,13 @@ pub fn read_at(pool: &[f32], clip: Clip, cursor: SongFrame) -> Pair
 }
 
 /// If Playing, the song gives the pair at its cursor; if not Playing, +0.0.
+#[tactic(auto, unfolding(crate::specs::Sound::played_of))]
 pub fn played(pool: &[f32], song: Clip, m: Moved) -> Pair
     requires { LiesIn (length pool.now) song }
     ensures { result ≡ played_of (recording_of pool.now song) m }
 {
     if m.playing {
-        let cursor = m.cursor;
-        return read_at(pool, song, cursor);
+        return read_at(pool, song, m.cursor);
     }
     Pair {
         left: 0.0,
@@ -219,59 +199,45 @@ fn tail_share(settings: Settings, g: f32, tail: Pair, w: f32) -> Pair
 impl Fade {
     /// Where there is a tail: w ticks, its share is added, the tail reads straight on. It leaves after the frame in which its
     /// weight lands on 0. The clip is the tail's.
+    #[tactic(auto, unfolding(crate::specs::Sound::with_tail, crate::specs::Sound::tail_on))]
     pub fn step_of(self, settings: Settings, pool: &[f32], clip: Clip, g: f32, out: Pair) -> Faded
         requires { LiesIn (length pool.now) clip }
         ensures { result ≡ faded_of settings (only (recording_of pool.now clip)) g self.tail out }
     {
-        let tail = self.tail;
-        match tail {
-            Tail::None => Faded {
-                fade: self,
-                out: out,
-            },
-            Tail::Sounding(h, cursor, weight) => {
-                let t = weight.tick();
-                let next = t.ramp;
-                let share = tail_share(settings, g, read_at(pool, clip, cursor), t.value);
-                let on = transport::cursor_on(clip.frames, cursor);
-                let landed = next.at_target();
-                Faded {
-                    fade: Fade {
-                        tail: unless(landed, Tail::Sounding(h, on, next)),
-                    },
-                    out: out.plus(share),
-                }
-            }
+        let Some(t) = self.tail else {
+            return Faded { fade: self, out };
+        };
+        let ticked = t.weight.tick();
+        let share = tail_share(settings, g, read_at(pool, clip, t.cursor), ticked.value);
+        let cursor = transport::cursor_on(clip.frames, t.cursor);
+        let weight = ticked.ramp;
+        let landed = weight.at_target();
+        let tail = if landed {
+            None
+        } else {
+            Some(Tail {
+                cursor,
+                weight,
+                ..t
+            })
+        };
+        Faded {
+            fade: Fade { tail },
+            out: out.plus(share),
         }
     }
 
     /// The same, with the clip out of the bank.
+    #[tactic(auto, unfolding(bank::specs::Recording::view_of, crate::specs::Sound::with_tail, crate::specs::Sound::tail_on))]
     pub fn step(self, settings: Settings, pool: &[f32], bank: Bank, g: f32, out: Pair) -> Faded
         requires { Fades (length pool.now) bank self.tail }
         ensures { result ≡ faded_of settings (view_of pool.now bank) g self.tail out }
     {
-        let tail = self.tail;
-        match tail {
-            Tail::None => Faded {
-                fade: self,
-                out: out,
-            },
-            Tail::Sounding(h, _, _) => {
-                let clip = bank::clip_of(bank, h);
-                self.step_of(settings, pool, clip, g, out)
-            }
+        match self.tail {
+            None => Faded { fade: self, out },
+            Some(t) => self.step_of(settings, pool, bank::clip_of(bank, t.song), g, out),
         }
     }
-}
-
-/// A tail that has landed leaves.
-fn unless(landed: bool, tail: Tail) -> Tail
-    ensures { result ≡ cond landed None tail }
-{
-    if landed {
-        return Tail::None;
-    }
-    tail
 }
 
 /// A gain is clamped to 0..2; -0.0 is taken as +0.0.
@@ -287,77 +253,61 @@ pub fn clamp(gain: f32) -> f32
 impl Sound {
     /// c mixes the voices; d: g = master tick, out = song × g, plus the tail's share, plus the stinger sum, in that order of
     /// adding.
+    #[tactic(auto, unfolding(crate::specs::Sound::rendered_of))]
     pub fn render(self, settings: Settings, pool: &[f32], bank: Bank, song: Pair) -> Rendered
         requires { Sounding (length pool.now) bank self }
         ensures { result ≡ rendered_of settings (view_of pool.now bank) song self }
     {
-        let voices = self.voices;
-        let mixed = voices.mix(pool, bank);
-        let master = self.master;
-        let ticked = master.tick();
+        let mixed = self.voices.mix(pool, bank);
+        let ticked = self.master.tick();
         let g = ticked.value;
-        let fade = self.fade;
-        let faded = fade.step(settings, pool, bank, g, song.times(g));
-        let out = faded.out;
-        let sum = mixed.sum;
-        let next_master = ticked.ramp;
-        let next_fade = faded.fade;
-        let next_voices = mixed.voices;
+        let faded = self.fade.step(settings, pool, bank, g, song.times(g));
         Rendered {
             sound: Sound {
-                master: next_master,
-                fade: next_fade,
-                voices: next_voices,
+                master: ticked.ramp,
+                fade: faded.fade,
+                voices: mixed.voices,
             },
-            out: out.plus(sum),
+            out: faded.out.plus(mixed.sum),
         }
     }
 
     /// What a command does to it: Gain sets the master, Swap makes the old song the tail, Stinger adds a voice.
+    #[tactic(auto, unfolding(crate::specs::Sound::sound_by))]
     pub fn execute(self, settings: Settings, playhead: Playhead, command: Command) -> Sound
         requires { takes_voice (claim_of command) ≡ true → self.voices.count < 16 }
         ensures { result ≡ sound_by settings playhead command self }
     {
-        let master = self.master;
-        let fade = self.fade;
-        let voices = self.voices;
         match command {
-            Command::Play => self,
-            Command::Pause => self,
-            Command::Stop => self,
-            Command::Seek(_) => self,
-            Command::Transition(_) => self,
-            Command::Loop(_, _) => self,
-            Command::ClearLoop => self,
             Command::Gain(gain) => Sound {
-                master: master.set(clamp(gain), Tween::frames(GAIN_RAMP_FRAMES)),
-                fade: fade,
-                voices: voices,
+                master: self
+                    .master
+                    .set(clamp(gain), Tween::frames(GAIN_RAMP_FRAMES)),
+                ..self
             },
             Command::Swap(_) => Sound {
-                master: master,
-                fade: tail_from(playhead),
-                voices: voices,
+                fade: Fade {
+                    tail: Some(tail_from(playhead)),
+                },
+                ..self
             },
             Command::Stinger(h, gain) => Sound {
-                master: master,
-                fade: fade,
-                voices: voices.add(Voice::fired(settings.rate, h, gain)),
+                voices: self.voices.add(Voice::fired(settings.rate, h, gain)),
+                ..self
             },
+            _ => self,
         }
     }
 }
 
 /// The old song becomes the tail, from 1 to 0 in 1,024 frames.
-fn tail_from(playhead: Playhead) -> Fade
-    ensures { result ≡ record { tail = tail_from playhead } }
+fn tail_from(playhead: Playhead) -> Tail
+    ensures { result ≡ tail_from playhead }
 {
-    let song = playhead.song;
-    let t = playhead.transport;
-    let cursor = t.cursor;
-    let weight = Ramp::new(1.0).set(0.0, Tween::frames(SWAP_FADE_FRAMES));
-    Fade {
-        tail: Tail::Sounding(song, cursor, weight),
+    Tail {
+        song: playhead.song,
+        cursor: playhead.transport.cursor,
+        weight: Ramp::new(1.0).set(0.0, Tween::frames(SWAP_FADE_FRAMES)),
     }
 }
 
@@ -372,29 +322,18 @@ pub struct Counters {
 
 impl Counters {
     /// Each counts as executed; swaps and stingers also have counters.
+    #[tactic(auto, unfolding(crate::specs::Counters::counters_by))]
     pub fn count(mut self, command: Command) -> Counters
         requires { Countable self }
         ensures { result ≡ counters_by command self }
     {
         self.executed += 1;
         match command {
-            Command::Play => self,
-            Command::Pause => self,
-            Command::Stop => self,
-            Command::Seek(_) => self,
-            Command::Transition(_) => self,
-            Command::Loop(_, _) => self,
-            Command::ClearLoop => self,
-            Command::Gain(_) => self,
-            Command::Swap(_) => {
-                self.swaps += 1;
-                self
-            }
-            Command::Stinger(_, _) => {
-                self.fired += 1;
-                self
-            }
+            Command::Swap(_) => self.swaps += 1,
+            Command::Stinger(_, _) => self.fired += 1,
+            _ => {}
         }
+        self
     }
 }
 
@@ -417,48 +356,41 @@ pub struct Framed {
 
 impl Stage {
     /// One frame: a and b, the playhead's step; c and d, the sound over the pair that the song gives; e, clock + 1.
+    #[tactic(auto, unfolding(bank::specs::Recording::view_of, crate::specs::Stage::frame_of))]
     pub fn frame(self, settings: Settings, pool: &[f32], bank: Bank) -> Framed
         requires { FrameReady (length pool.now) bank self }
         ensures { result ≡ frame_of settings (view_of pool.now bank) self }
     {
-        let playhead = self.playhead;
-        let song = bank::clip_of(bank, playhead.song);
-        let kind = song.kind;
-        let moved = playhead.step(settings, song.frames, bank::extent_of(kind));
-        let pair = played(pool, song, moved);
-        let sound = self.sound;
-        let rendered = sound.render(settings, pool, bank, pair);
-        let clock = self.clock.0 + 1;
-        let next_playhead = moved.playhead;
-        let next_sound = rendered.sound;
-        let counters = self.counters;
-        let out = rendered.out;
+        let song = bank::clip_of(bank, self.playhead.song);
+        let moved = self
+            .playhead
+            .step(settings, song.frames, bank::extent_of(song.kind));
+        let rendered = self
+            .sound
+            .render(settings, pool, bank, played(pool, song, moved));
         Framed {
             stage: Stage {
-                clock: ClockFrame(clock),
-                playhead: next_playhead,
-                sound: next_sound,
-                counters: counters,
+                clock: ClockFrame(self.clock.0 + 1),
+                playhead: moved.playhead,
+                sound: rendered.sound,
+                ..self
             },
-            out: out,
+            out: rendered.out,
             passes: moved.passes,
         }
     }
 
     /// One command, where the song that plays has the length `extent`.
+    #[tactic(auto, unfolding(crate::specs::Stage::execute_of))]
     pub fn execute(self, settings: Settings, extent: SongFrame, command: Command) -> Stage
         requires { ExecReady command self }
         ensures { result ≡ execute_of settings extent.0 command self }
     {
-        let playhead = self.playhead;
-        let sound = self.sound;
-        let counters = self.counters;
-        let clock = self.clock;
         Stage {
-            clock: clock,
-            playhead: playhead.execute(extent, command),
-            sound: sound.execute(settings, playhead, command),
-            counters: counters.count(command),
+            playhead: self.playhead.execute(extent, command),
+            sound: self.sound.execute(settings, self.playhead, command),
+            counters: self.counters.count(command),
+            ..self
         }
     }
 }

@@ -4,9 +4,6 @@ use lib.Ieee.{of_bits}
 use Rattle.stage.proofs.Past.{past_clip_law}
 use Rattle.stage.proofs.read_at.Goals as goal
 
-pub returns-then-cursor-clip : goal.returns-then-cursor-clip
-returns-then-cursor-clip c = rw (c.pair_at.ensures, c.place.ensures)
-
 pub returns : goal.returns
 unfolding of_bits
 returns c =
