@@ -4,9 +4,8 @@ use crate::lines::Line;
 use crate::rows::row;
 use counts::Handle;
 use session::Session;
-use stage::Tail;
 use std::io;
-use transport::{LoopRange, TransportState};
+use transport::TransportState;
 
 /// No frame that a clock reaches.
 const LAST: u64 = 18446744073709551615;
@@ -54,22 +53,13 @@ fn is_paused(s: Session) -> bool {
 
 /// A tail sounds.
 fn sounds(s: Session) -> bool {
-    let fade = s.stage.sound.fade;
-    let tail = fade.tail;
-    match tail {
-        Tail::None => false,
-        Tail::Sounding(_, _, _) => true,
-    }
+    s.stage.sound.fade.tail.is_some()
 }
 
 /// A loop is set, and the position is its end or past it.
 fn past_loop(s: Session) -> bool {
     let position = s.position();
-    let range = s.loop_range();
-    match range {
-        LoopRange::Off => false,
-        LoopRange::Range(_, end) => position.0 >= end.0,
-    }
+    s.loop_range().is_some_and(|l| position.0 >= l.end.0)
 }
 
 /// The first queued record's frame, and 2^64 - 1 if none is queued. The first stands last.

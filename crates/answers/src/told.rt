@@ -34,10 +34,10 @@ fn state_number(s: TransportState) -> u64 {
 }
 
 /// A loop: set or not, its start, its end.
-fn looped(l: Line, x: LoopRange) -> Line {
+fn looped(l: Line, x: Option<LoopRange>) -> Line {
     match x {
-        LoopRange::Off => l.push(0).push(0).push(0),
-        LoopRange::Range(start, end) => l.push(1).push(start.0).push(end.0),
+        None => l.push(0).push(0).push(0),
+        Some(r) => l.push(1).push(r.start.0).push(r.end.0),
     }
 }
 
@@ -126,7 +126,7 @@ pub fn seated(r: Answered<Handle>) -> Seat {
         position: SongFrame(0),
         state: TransportState::Stopped,
         gain: 0.0,
-        looped: LoopRange::Off,
+        looped: None,
     };
     Seat {
         session,

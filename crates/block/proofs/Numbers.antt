@@ -6,6 +6,7 @@ use Prim.Native.Nat.{ℕ, ◌*◌}
 use lib.IntN.{negsuc}
 use lib.ListN.{replicate}
 use lib.Ieee.{Float, fin, add, sub, mul, div, of_int, le, lt, of_bits}
+use Rattle.std.specs.Prelude.{None}
 use Rattle.laws.specs.Block.{run, block}
 use Rattle.counts.specs.declared.Handle.{Handle}
 use Rattle.counts.specs.Below.{all_below, count_below}
@@ -14,7 +15,6 @@ use Rattle.ramp.specs.Ramp.{at_rest}
 use Rattle.timeline.specs.Record.{readable, read_of, sooner}
 use Rattle.timeline.specs.Store.{row_at}
 use Rattle.timeline.specs.Queue.{ordered_at, entry_ok, queue_ok, capture_ok}
-use Rattle.transport.specs.declared.LoopRange.{LoopRange}
 use Rattle.transport.specs.declared.Transport.{Transport}
 use Rattle.transport.specs.declared.TransportState.{TransportState}
 use Rattle.transport.specs.Transport.{transport, wrap_of, cursor_on, advance_of, is_past, comes_round, step_of}
@@ -25,7 +25,6 @@ use Rattle.bank.specs.Recording.{view_of}
 use Rattle.bank.specs.WellFormed.{clip_ok, slot_ok, bank_ok}
 use Rattle.oneshot.specs.Heard.{sample_at}
 use Rattle.oneshot.specs.Mix.{no_voices, mix_of, mix_in}
-use Rattle.stage.specs.declared.Tail.{Tail}
 use Rattle.stage.specs.Playhead.{playhead, moved_of, playhead_by}
 use Rattle.stage.specs.Sound.{sound, played_of, with_tail, tail_on, rendered_of, sound_by}
 use Rattle.stage.specs.Counters.{counters, counters_by}
@@ -64,8 +63,8 @@ opened n =
       stage =
           record {
             clock = record { 0 = 0 };
-            playhead = playhead (transport TransportState.Stopped 0 0 LoopRange.Off 0) song;
-            sound = sound (at_rest one32) Tail.None no_voices;
+            playhead = playhead (transport TransportState.Stopped 0 0 None 0) song;
+            sound = sound (at_rest one32) None no_voices;
             counters = counters 0 0 0;
           };
       queued = n;
@@ -107,7 +106,7 @@ TwoCommands =
     (executed (after both 8 (opened 2)) ≡ 1)
     × (executed (after both 0 (after both 8 (opened 2))) ≡ 1)
     × (executed (after both 1 (after both 0 (after both 8 (opened 2)))) ≡ 2)
-    × (transport_of (after both 1 (after both 0 (after both 8 (opened 2)))) ≡ transport TransportState.Paused 0 0 LoopRange.Off 0)
+    × (transport_of (after both 1 (after both 0 (after both 8 (opened 2)))) ≡ transport TransportState.Paused 0 0 None 0)
     × (executed (after both 9 (opened 2)) ≡ 2)
 
 -- song (0.5, -0.5), (0.25, 0.25), length 2, Play at 0, block of 4: those pairs, four zeros; position 2, Stopped

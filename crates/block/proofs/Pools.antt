@@ -9,6 +9,7 @@ use lib.Dec.{eqb}
 use lib.ListN.{length, take, length-set}
 use lib.Seq.{get_or-set_other, take_all, take-length}
 use lib.Ieee.{Float}
+use Rattle.std.specs.Prelude.{Option, Some, None}
 use Rattle.laws.specs.Queue.{Each}
 use Rattle.laws.specs.Alike.{Maps}
 use Rattle.laws.specs.Block.{At, stand, block}
@@ -87,9 +88,9 @@ module _ (view other : View) where
   SameVoice v = Same v.handle
 
   -- on the tail's, if there is one,
-  abbrev pub SameTail : Tail → Type 0
-  SameTail Tail.None = Unit {0}
-  SameTail (Tail.Sounding h c w) = Same h
+  abbrev pub SameTail : Option Tail → Type 0
+  SameTail None = Unit {0}
+  SameTail (Some t) = Same t.song
 
   -- and on what a command names
   abbrev pub SameClaim : Claim → Type 0
@@ -109,22 +110,22 @@ module _ (view other : View) where
     tail : SameTail s.sound.fade.tail
     voices : voices.Each SameVoice (standing s.sound.voices)
 
-  share_agrees : (x : Settings) (g : Float) (t : Tail) (p : Pair) → SameTail t → with_tail x other g t p ≡ with_tail x view g t p
+  share_agrees : (x : Settings) (g : Float) (t : Option Tail) (p : Pair) → SameTail t → with_tail x other g t p ≡ with_tail x view g t p
   unfolding with_tail
-  share_agrees x g Tail.None p e = refl
-  share_agrees x g (Tail.Sounding h c w) p e = rw e
+  share_agrees x g None p e = refl
+  share_agrees x g (Some t) p e = rw e
 
-  tail_agrees : (t : Tail) → SameTail t → tail_on other t ≡ tail_on view t
+  tail_agrees : (t : Option Tail) → SameTail t → tail_on other t ≡ tail_on view t
   unfolding tail_on
-  tail_agrees Tail.None e = refl
-  tail_agrees (Tail.Sounding h c w) e = rw e
+  tail_agrees None e = refl
+  tail_agrees (Some t) e = rw e
 
-  tail_on_law : (t : Tail) → SameTail t → SameTail (tail_on view t)
+  tail_on_law : (t : Option Tail) → SameTail t → SameTail (tail_on view t)
   unfolding tail_on
-  tail_on_law Tail.None e = tt
-  tail_on_law (Tail.Sounding h c w) e = go (eqb (tick_of w).ramp.remaining 0)
+  tail_on_law None e = tt
+  tail_on_law (Some t) e = go (eqb (tick_of t.weight).ramp.remaining 0)
     where
-      go : (b : Bool) → SameTail (cond b Tail.None (Tail.Sounding h (record { 0 = cursor_on (view h).frames c.0 }) (tick_of w).ramp))
+      go : (b : Bool) → SameTail (cond b None (Some (record { song = t.song; cursor = record { 0 = cursor_on (view t.song).frames t.cursor.0 }; weight = (tick_of t.weight).ramp })))
       go true = tt
       go false = e
 

@@ -1,11 +1,10 @@
 -- A clip list, the sessions that start with it, and the session that is made of it. Definitions only.
-use Rattle.std.specs.Prelude.{ℕ, ◌+◌, ◌-◌, ◌^◌, ◌≤◌, ◌≡◌, Bool, true, not, ◌&&◌, List, [], ◌∷◌, ltb, eqb, set, replicate}
+use Rattle.std.specs.Prelude.{ℕ, ◌+◌, ◌-◌, ◌^◌, ◌≤◌, ◌≡◌, Bool, true, not, ◌&&◌, List, [], ◌∷◌, ltb, eqb, set, replicate, None}
 use Rattle.laws.specs.Order.{any}
 use Rattle.laws.specs.Queue.{Each}
 use Rattle.counts.specs.declared.Handle.{Handle}
 use Rattle.counts.specs.Handles.{same_handle}
 use Rattle.transport.specs.declared.TransportState.{TransportState}
-use Rattle.transport.specs.declared.LoopRange.{LoopRange}
 use Rattle.transport.specs.Transport.{transport}
 use Rattle.transport.specs.Leap.{blindly}
 use Rattle.bank.specs.declared.Clip.{Clip}
@@ -41,7 +40,7 @@ pub record HasList (m : ℕ) (e : Entry) (l : List Entry) (t : Session) : Type 0
 pub record Starts (m : ℕ) (e : Entry) (l : List Entry) (t : Session) : Type 0 where
   pub list : HasList m e l t
   pub clock : t.stage.clock.0 ≡ 0
-  pub stands : blindly t.stage.playhead.transport ≡ transport TransportState.Stopped 0 0 LoopRange.Off 0
+  pub stands : blindly t.stage.playhead.transport ≡ transport TransportState.Stopped 0 0 None 0
   pub queued : t.queued ≡ 0
   pub voices : t.stage.sound.voices.count ≡ 0
   pub number : t.desk.number ≡ 0

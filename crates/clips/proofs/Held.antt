@@ -7,6 +7,7 @@ use mathlib.Core.List.{List}
 use Prim.Native.Nat.{ℕ, ◌^◌, ◌<◌}
 use native.Mathlib.Omega.{arith}
 use borrow.Author.Tests.{eq-eqb}
+use Rattle.std.specs.Prelude.{Option, Some, None}
 use Rattle.counts.specs.declared.Claim.{Claim}
 use Rattle.counts.specs.declared.Handle.{Handle}
 use Rattle.counts.specs.declared.SongFrame.{SongFrame}
@@ -35,9 +36,9 @@ use Rattle.session.proofs.Typed.{Typed}
 use Rattle.clips.specs.Retire.{tail_holds, stage_holds, held_now}
 
 -- the tail holds a song
-abbrev pub tail_claim : Tail → Claim
-tail_claim Tail.None = Claim.Nothing
-tail_claim (Tail.Sounding h c w) = Claim.Song h
+abbrev pub tail_claim : Option Tail → Claim
+tail_claim None = Claim.Nothing
+tail_claim (Some t) = Claim.Song t.song
 
 -- what is so of everything that a session holds
 pub record Every (P : Claim → Type 0) (s : Session) (q c : List ℕ) : Type 0 where
@@ -50,7 +51,7 @@ pub record Every (P : Claim → Type 0) (s : Session) (q c : List ℕ) : Type 0 
 -- what holds a clip: song, tail, voice, queue or running capture
 pub data Holder (h : Handle) (s : Session) (q c : List ℕ) : Type 0 where
   by_song : s.stage.playhead.song ≡ h → Holder h s q c
-  by_tail : (at : SongFrame) (w : Ramp) → s.stage.sound.fade.tail ≡ Tail.Sounding h at w → Holder h s q c
+  by_tail : (at : SongFrame) (w : Ramp) → s.stage.sound.fade.tail ≡ Some (record { song = h; cursor = at; weight = w }) → Holder h s q c
   by_voice : (i : ℕ) → i < s.stage.sound.voices.count → (voice_at s.stage.sound.voices i).handle ≡ h → Holder h s q c
   by_queue : (j : ℕ) → j < s.queued → claims h (claim_of (read_of (row_at q j))) ≡ true → Holder h s q c
   by_capture : (j : ℕ) → j < captured_now s.desk → claims h (claim_of (read_of (row_at c j))) ≡ true → Holder h s q c
@@ -66,14 +67,14 @@ every_both s q c f a b =
       capture = λ j l. f _ (a.capture j l) (b.capture j l);
     }
 
-tail_has : (b : Bank) (s : Session) (t : Tail) → tail_held (with_bank s b) t ≡ true → claim_ok b s.settings.rate (tail_claim t) ≡ true
+tail_has : (b : Bank) (s : Session) (t : Option Tail) → tail_held (with_bank s b) t ≡ true → claim_ok b s.settings.rate (tail_claim t) ≡ true
 unfolding claim_ok
-tail_has b s Tail.None e = refl
-tail_has b s (Tail.Sounding h c w) e = e
+tail_has b s None e = refl
+tail_has b s (Some t) e = e
 
-tail_is : (b : Bank) (s : Session) (t : Tail) → claim_ok b s.settings.rate (tail_claim t) ≡ true → tail_held (with_bank s b) t ≡ true
-tail_is b s Tail.None e = refl
-tail_is b s (Tail.Sounding h c w) e = e
+tail_is : (b : Bank) (s : Session) (t : Option Tail) → claim_ok b s.settings.rate (tail_claim t) ≡ true → tail_held (with_bank s b) t ≡ true
+tail_is b s None e = refl
+tail_is b s (Some t) e = e
 
 module _ (s : Session) (q c : List ℕ) (e : well_formed s q c ≡ true) where
   p : Parts s q c
@@ -154,13 +155,13 @@ module _ (h : Handle) (s : Session) (q c : List ℕ) (small : h.serial < 2 ^ 32)
   abbrev capture : Bool
   capture = holds h c (captured_now s.desk)
 
-  by_tail_law : (t : Tail) → s.stage.sound.fade.tail ≡ t → claims h (tail_claim t) ≡ true → Holder h s q c
-  by_tail_law Tail.None p e = absurd (never (sym e))
-  by_tail_law (Tail.Sounding k at w) p e = by_tail at w (rw (same_is h k e) p)
+  by_tail_law : (t : Option Tail) → s.stage.sound.fade.tail ≡ t → claims h (tail_claim t) ≡ true → Holder h s q c
+  by_tail_law None p e = absurd (never (sym e))
+  by_tail_law (Some t) p e = by_tail t.cursor t.weight (rw (same_is h t.song e) p)
 
-  tail_claims : (t : Tail) → tail_holds h t ≡ claims h (tail_claim t)
-  tail_claims Tail.None = refl
-  tail_claims (Tail.Sounding k at w) = refl
+  tail_claims : (t : Option Tail) → tail_holds h t ≡ claims h (tail_claim t)
+  tail_claims None = refl
+  tail_claims (Some t) = refl
 
   -- song, tail, voice, queue and running capture hold a clip,
   pub held_is : Holder h s q c → held_now s q c h ≡ true

@@ -1,11 +1,10 @@
 -- Opening. Definitions only.
-use Rattle.std.specs.Prelude.{ℕ, false, not, ◌&&◌, List, ltb, eqb, length, Float, Result, Ok, Err}
+use Rattle.std.specs.Prelude.{ℕ, false, not, ◌&&◌, List, ltb, eqb, length, Float, Result, Ok, Err, None}
 use Rattle.counts.specs.declared.SongFrame.{SongFrame}
 use Rattle.counts.specs.declared.Handle.{Handle}
 use Rattle.ramp.specs.Number.{one32}
 use Rattle.ramp.specs.Ramp.{at_rest}
 use Rattle.transport.specs.declared.TransportState.{TransportState}
-use Rattle.transport.specs.declared.LoopRange.{LoopRange}
 use Rattle.transport.specs.Transport.{transport}
 use Rattle.bank.specs.declared.Kind.{Kind}
 use Rattle.bank.specs.declared.Clip.{Clip}
@@ -16,7 +15,6 @@ use Rattle.bank.specs.Room.{pasted}
 use Rattle.bank.specs.WellFormed.{rate_ok, extent_ok}
 use Rattle.oneshot.specs.Mix.{no_voices}
 use Rattle.stage.specs.declared.Settings.{Settings}
-use Rattle.stage.specs.declared.Tail.{Tail}
 use Rattle.stage.specs.declared.Stage.{Stage}
 use Rattle.stage.specs.Playhead.{playhead}
 use Rattle.stage.specs.Sound.{sound}
@@ -55,8 +53,8 @@ abbrev pub stage_at : Handle → Stage
 stage_at h =
     record {
       clock = record { 0 = 0 };
-      playhead = playhead (transport TransportState.Stopped 0 0 LoopRange.Off 0) h;
-      sound = sound (at_rest one32) Tail.None no_voices;
+      playhead = playhead (transport TransportState.Stopped 0 0 None 0) h;
+      sound = sound (at_rest one32) None no_voices;
       counters = counters 0 0 0;
     }
 

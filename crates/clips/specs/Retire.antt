@@ -1,5 +1,5 @@
 -- Retiring. Definitions only.
-use Rattle.std.specs.Prelude.{ℕ, Bool, false, not, ◌||◌, List, Result, Ok, Err}
+use Rattle.std.specs.Prelude.{ℕ, Bool, false, not, ◌||◌, List, Result, Ok, Err, Option, Some, None}
 use Rattle.counts.specs.declared.Handle.{Handle}
 use Rattle.counts.specs.Below.{any_below}
 use Rattle.counts.specs.Handles.{same_handle}
@@ -17,9 +17,9 @@ use Rattle.session.specs.WellFormed.{well_formed}
 use Rattle.session.specs.Answer.{answered}
 
 -- the tail is that clip
-abbrev pub tail_holds : Handle → Tail → Bool
-tail_holds h Tail.None = false
-tail_holds h (Tail.Sounding k c w) = same_handle h k
+abbrev pub tail_holds : Handle → Option Tail → Bool
+tail_holds h None = false
+tail_holds h (Some t) = same_handle h t.song
 
 -- song, tail or voice holds it
 unfoldable pub stage_holds : Handle → Stage → Bool

@@ -22,7 +22,7 @@ use oneshot::Voices;
 use ramp::Ramp;
 use session::{Answered, Desk, Refusal, Session};
 use stage::{Counters, Fade, Playhead, Settings, Sound, Stage, Tail};
-use transport::{LoopRange, Transport, TransportState};
+use transport::{Transport, TransportState};
 
 // ---- open
 
@@ -77,11 +77,11 @@ fn stage_at(h: Handle) -> Stage
         state: TransportState::Stopped,
         position: SongFrame(0),
         cursor: SongFrame(0),
-        looped: LoopRange::Off,
+        looped: None,
         laps: 0,
     };
     let master = Ramp::new(1.0);
-    let fade = Fade { tail: Tail::None };
+    let fade = Fade { tail: None };
     let voices = Voices::none();
     Stage {
         clock: ClockFrame(0),
@@ -298,13 +298,10 @@ pub fn load(
 // ---- retire
 
 /// The tail is that clip.
-fn tail_holds(h: Handle, tail: Tail) -> bool
+fn tail_holds(h: Handle, tail: Option<Tail>) -> bool
     ensures { result ≡ tail_holds h tail }
 {
-    match tail {
-        Tail::None => false,
-        Tail::Sounding(k, _, _) => h == k,
-    }
+    tail.is_some_and(|t| h == t.song)
 }
 
 /// A voice is.

@@ -8,6 +8,7 @@ use native.Mathlib.Nat.{min-le_right}
 use native.Mathlib.Omega.{arith}
 use lib.Ieee.{le}
 use borrow.Author.Tests.{le-leb, not-false}
+use Rattle.std.specs.Prelude.{Option, Some, None}
 use Rattle.counts.specs.declared.Claim.{Claim}
 use Rattle.counts.specs.declared.Handle.{Handle}
 use Rattle.counts.proofs.Truth.{and_true, and_r}
@@ -39,9 +40,9 @@ no_record true s = refl
 no_record false s = refl
 
 -- a tail is held alike where the bank and the rate are the same
-tail_same : (s r : Session) → ((h : Handle) → held s (Claim.Song h) ≡ held r (Claim.Song h)) → (t : Tail) → tail_held s t ≡ tail_held r t
-tail_same s r e Tail.None = refl
-tail_same s r e (Tail.Sounding h c w) = e h
+tail_same : (s r : Session) → ((h : Handle) → held s (Claim.Song h) ≡ held r (Claim.Song h)) → (t : Option Tail) → tail_held s t ≡ tail_held r t
+tail_same s r e None = refl
+tail_same s r e (Some t) = e t.song
 
 module _ (s : Session) (q c : List ℕ) (formed : well_formed s q c ≡ true) where
   p : Parts s q c

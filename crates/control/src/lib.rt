@@ -20,7 +20,7 @@ pub struct PerformanceSnapshot {
     pub position: SongFrame,
     pub state: TransportState,
     pub gain: f32,
-    pub looped: LoopRange,
+    pub looped: Option<LoopRange>,
 }
 
 /// Frames rendered, commands executed and dropped, the deepest queue, swaps and stingers fired.

@@ -3,11 +3,11 @@ use mathlib.Core.Path.{◌≡◌, sym, ap, ◌∙◌}
 use mathlib.Core.List.{List}
 use Prim.Native.Nat.{ℕ, ◌≤◌}
 use native.Mathlib.Omega.{arith}
+use Rattle.std.specs.Prelude.{None}
 use Rattle.counts.specs.declared.Handle.{Handle}
 use Rattle.counts.specs.Below.{count_below}
 use Rattle.transport.specs.declared.Transport.{Transport}
 use Rattle.transport.specs.declared.TransportState.{TransportState}
-use Rattle.transport.specs.declared.LoopRange.{LoopRange}
 use Rattle.transport.specs.Transport.{transport}
 use Rattle.stage.specs.Playhead.{playhead}
 use Rattle.session.specs.declared.Session.{Session}
@@ -19,11 +19,11 @@ use Rattle.leaps.specs.Same.{Alike}
 
 -- where one starts
 starts_dry : (m : ℕ) (e : Entry) (l : List Entry) (s : Session) → Starts m e l s
-    → dry_of s.stage ≡ dry_at 0 (playhead (transport TransportState.Stopped 0 0 LoopRange.Off 0) e.handle)
+    → dry_of s.stage ≡ dry_at 0 (playhead (transport TransportState.Stopped 0 0 None 0) e.handle)
 starts_dry m e l s x =
     ap (λ (t : ℕ). dry_at t (blind s.stage.playhead)) x.clock
     ∙ ap (λ (t : Transport). dry_at 0 (playhead t s.stage.playhead.song)) x.stands
-    ∙ ap (λ (h : Handle). dry_at 0 (playhead (transport TransportState.Stopped 0 0 LoopRange.Off 0) h)) x.list.song
+    ∙ ap (λ (h : Handle). dry_at 0 (playhead (transport TransportState.Stopped 0 0 None 0) h)) x.list.song
 
 -- alike, with room for 256 commands
 pub starts_alike : (m : ℕ) (e : Entry) (l : List Entry) (s : Session) (q : List ℕ) (t : Session) (p : List ℕ) → Starts m e l s → Starts m e l t → (n : ℕ) → n ≤ 256

@@ -1,5 +1,5 @@
 -- The dry run of a recorded tour: its answer, and what it leaves in the stores. Definitions only.
-use Rattle.std.specs.Prelude.{ℕ, ◌^◌, cond, List, eqb, leb}
+use Rattle.std.specs.Prelude.{ℕ, ◌^◌, cond, List, eqb, leb, Option}
 use Rattle.counts.specs.declared.ClockFrame.{ClockFrame}
 use Rattle.counts.specs.declared.SongFrame.{SongFrame}
 use Rattle.counts.specs.declared.Handle.{Handle}
@@ -70,7 +70,7 @@ dry_run_of mode clips file blocks x =
 
 -- an answer in numbers: commands, taken, executed and still queued, and where the playhead is; or the refusal's number and its place
 pub data SaysDry : Type 0 where
-  came : ℕ → ℕ → ℕ → ℕ → ClockFrame → Handle → TransportState → SongFrame → LoopRange → ℕ → SaysDry
+  came : ℕ → ℕ → ℕ → ℕ → ClockFrame → Handle → TransportState → SongFrame → Option LoopRange → ℕ → SaysDry
   refuses : ℕ → ℕ → SaysDry
 
 abbrev pub says_dry : DryAnswer → SaysDry

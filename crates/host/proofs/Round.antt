@@ -9,6 +9,7 @@ use lib.Dec.{eqb, leb}
 use lib.Ieee.{Float}
 use lib.ListN.{length, get_or}
 use borrow.Author.Tests.{leb-true, eqb-true}
+use Rattle.std.specs.Prelude.{Option, Some, None}
 use Rattle.counts.specs.Below.{within}
 use Rattle.counts.proofs.Truth.{two_ways, never, and_true, and_l, and_r, cond_both}
 use Rattle.counts.proofs.Below.{all_true, all_at, all_same}
@@ -64,14 +65,14 @@ flag_back true = refl
 flag_back false = refl
 
 -- a loop,
-pub loop_back : (x : LoopRange) → loop_of (loop_numbers x) ≡ x
-loop_back LoopRange.Off = refl
-loop_back (LoopRange.Range s e) = refl
+pub loop_back : (x : Option LoopRange) → loop_of (loop_numbers x) ≡ x
+loop_back None = refl
+loop_back (Some l) = refl
 
 -- a tail,
-pub tail_back : (x : Tail) → tail_of (tail_numbers x) ≡ x
-tail_back Tail.None = refl
-tail_back (Tail.Sounding h c w) = refl
+pub tail_back : (x : Option Tail) → tail_of (tail_numbers x) ≡ x
+tail_back None = refl
+tail_back (Some t) = refl
 
 -- and so a session comes back the same,
 pub there_and_back : (s : Session) → session_of (host_of s) ≡ s
@@ -104,13 +105,13 @@ flag_named : (on : Bool) → is_flag (flag_number on) ≡ true
 flag_named true = refl
 flag_named false = refl
 
-loop_named : (x : LoopRange) → is_flag (loop_numbers x).set ≡ true
-loop_named LoopRange.Off = refl
-loop_named (LoopRange.Range s e) = refl
+loop_named : (x : Option LoopRange) → is_flag (loop_numbers x).set ≡ true
+loop_named None = refl
+loop_named (Some l) = refl
 
-tail_named : (x : Tail) → is_flag (tail_numbers x).sounding ≡ true
-tail_named Tail.None = refl
-tail_named (Tail.Sounding h c w) = refl
+tail_named : (x : Option Tail) → is_flag (tail_numbers x).sounding ≡ true
+tail_named None = refl
+tail_named (Some t) = refl
 
 clips_named : (cs : List Clip) (i : ℕ) → is_kind (get_or (map clip_numbers cs) i blank_clip).kind ≡ true
 clips_named [] i = refl

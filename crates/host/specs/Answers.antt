@@ -1,8 +1,7 @@
 -- Answers as a host reads them: 0 or the refusal's number, what the call gives, and the session. Definitions only.
-use Rattle.std.specs.Prelude.{ℕ, zero, suc, ◌+◌, ◌-◌, ◌^◌, min, Bool, cond, List, eqb, Result, Ok, Err}
+use Rattle.std.specs.Prelude.{ℕ, zero, suc, ◌+◌, ◌-◌, ◌^◌, min, Bool, cond, List, eqb, Result, Ok, Err, None}
 use Rattle.counts.specs.declared.Handle.{Handle}
 use Rattle.ramp.specs.Number.{zero32}
-use Rattle.transport.specs.declared.LoopRange.{LoopRange}
 use Rattle.session.specs.declared.Answered.{Answered}
 use Rattle.session.specs.Refusal.{number_of}
 use Rattle.session.specs.Answer.{Says}
@@ -236,7 +235,7 @@ snapped n x h = record { refusal = n; snapshot = x; session = h }
 
 -- position 0, stopped, gain 0, no loop
 abbrev pub no_snapshot : HostSnapshot
-no_snapshot = record { position = record { 0 = 0 }; state = 0; gain = zero32; looped = loop_numbers LoopRange.Off }
+no_snapshot = record { position = record { 0 = 0 }; state = 0; gain = zero32; looped = loop_numbers None }
 
 abbrev pub snapshot_refused : HostSession → ℕ → HostSnapped
 snapshot_refused h n = snapped n no_snapshot (turned n h)

@@ -1,5 +1,5 @@
 -- A session as a host keeps it: each case is a number. Definitions only.
-use Rattle.std.specs.Prelude.{ℕ, suc, Bool, true, ◌&&◌, ◌||◌, cond, List, [], ◌∷◌, map, eqb, leb, get_or}
+use Rattle.std.specs.Prelude.{ℕ, suc, Bool, true, ◌&&◌, ◌||◌, cond, List, [], ◌∷◌, map, eqb, leb, get_or, Option, Some, None}
 use Rattle.counts.specs.Below.{all_below}
 use Rattle.counts.specs.declared.SongFrame.{SongFrame}
 use Rattle.counts.specs.declared.Handle.{Handle}
@@ -71,24 +71,24 @@ abbrev pub flag_number : Bool → ℕ
 flag_number on = cond on 1 0
 
 -- a loop that is set has ends
-abbrev pub loop_of : HostLoop → LoopRange
-loop_of x = cond (flag_of x.set) (LoopRange.Range x.start x.end) LoopRange.Off
+abbrev pub loop_of : HostLoop → Option LoopRange
+loop_of x = cond (flag_of x.set) (Some (record { start = x.start; end = x.end })) None
 
-abbrev pub loop_numbers : LoopRange → HostLoop
-loop_numbers LoopRange.Off = record { set = 0; start = record { 0 = 0 }; end = record { 0 = 0 } }
-loop_numbers (LoopRange.Range s e) = record { set = 1; start = s; end = e }
+abbrev pub loop_numbers : Option LoopRange → HostLoop
+loop_numbers None = record { set = 0; start = record { 0 = 0 }; end = record { 0 = 0 } }
+loop_numbers (Some l) = record { set = 1; start = l.start; end = l.end }
 
 -- no clip: a handle that is never given
 abbrev pub no_handle : Handle
 no_handle = record { slot = 0; serial = 0 }
 
 -- a tail that sounds has a song, a cursor and a weight
-abbrev pub tail_of : HostTail → Tail
-tail_of x = cond (flag_of x.sounding) (Tail.Sounding x.song x.cursor x.weight) Tail.None
+abbrev pub tail_of : HostTail → Option Tail
+tail_of x = cond (flag_of x.sounding) (Some (record { song = x.song; cursor = x.cursor; weight = x.weight })) None
 
-abbrev pub tail_numbers : Tail → HostTail
-tail_numbers Tail.None = record { sounding = 0; song = no_handle; cursor = record { 0 = 0 }; weight = at_rest zero32 }
-tail_numbers (Tail.Sounding h c w) = record { sounding = 1; song = h; cursor = c; weight = w }
+abbrev pub tail_numbers : Option Tail → HostTail
+tail_numbers None = record { sounding = 0; song = no_handle; cursor = record { 0 = 0 }; weight = at_rest zero32 }
+tail_numbers (Some t) = record { sounding = 1; song = t.song; cursor = t.cursor; weight = t.weight }
 
 -- ---- the session
 

@@ -321,57 +321,63 @@ fn flag_number(on: bool) -> u32
     if on { 1 } else { 0 }
 }
 
-fn loop_of(x: HostLoop) -> LoopRange
+fn loop_of(x: HostLoop) -> Option<LoopRange>
     ensures { result ≡ loop_of x }
 {
     if flag_of(x.set) {
-        let start = x.start;
-        let end = x.end;
-        return LoopRange::Range(start, end);
+        return Some(LoopRange {
+            start: x.start,
+            end: x.end,
+        });
     }
-    LoopRange::Off
+    None
 }
 
-pub fn loop_numbers(x: LoopRange) -> HostLoop
+pub fn loop_numbers(x: Option<LoopRange>) -> HostLoop
     ensures { result ≡ loop_numbers x }
 {
     match x {
-        LoopRange::Off => HostLoop {
+        None => HostLoop {
             set: 0,
             start: SongFrame(0),
             end: SongFrame(0),
         },
-        LoopRange::Range(start, end) => HostLoop { set: 1, start, end },
+        Some(l) => HostLoop {
+            set: 1,
+            start: l.start,
+            end: l.end,
+        },
     }
 }
 
-fn tail_of(x: HostTail) -> Tail
+fn tail_of(x: HostTail) -> Option<Tail>
     ensures { result ≡ tail_of x }
 {
     if flag_of(x.sounding) {
-        let song = x.song;
-        let cursor = x.cursor;
-        let weight = x.weight;
-        return Tail::Sounding(song, cursor, weight);
+        return Some(Tail {
+            song: x.song,
+            cursor: x.cursor,
+            weight: x.weight,
+        });
     }
-    Tail::None
+    None
 }
 
-fn tail_numbers(x: Tail) -> HostTail
+fn tail_numbers(x: Option<Tail>) -> HostTail
     ensures { result ≡ tail_numbers x }
 {
     match x {
-        Tail::None => HostTail {
+        None => HostTail {
             sounding: 0,
             song: Handle { slot: 0, serial: 0 },
             cursor: SongFrame(0),
             weight: Ramp::new(0.0),
         },
-        Tail::Sounding(song, cursor, weight) => HostTail {
+        Some(t) => HostTail {
             sounding: 1,
-            song,
-            cursor,
-            weight,
+            song: t.song,
+            cursor: t.cursor,
+            weight: t.weight,
         },
     }
 }
@@ -934,7 +940,7 @@ fn no_snapshot() -> HostSnapshot
         position: SongFrame(0),
         state: 0,
         gain: 0.0,
-        looped: loop_numbers(LoopRange::Off),
+        looped: loop_numbers(None),
     }
 }
 

@@ -1,6 +1,5 @@
 -- What a dry run gives a host. Definitions only.
-use Rattle.std.specs.Prelude.{ℕ, cond, eqb}
-use Rattle.transport.specs.declared.LoopRange.{LoopRange}
+use Rattle.std.specs.Prelude.{ℕ, cond, eqb, None}
 use Rattle.dryrun.specs.declared.DryDone.{DryDone}
 use Rattle.dryrun.specs.declared.DryAnswer.{DryAnswer}
 use Rattle.dryrun.specs.Call.{dry_number, SaysDry, came, refuses as refuses_dry}
@@ -20,7 +19,7 @@ dry_run_refused n at =
       song = no_handle;
       state = 0;
       position = record { 0 = 0 };
-      looped = loop_numbers LoopRange.Off;
+      looped = loop_numbers None;
       laps = 0;
     }
 

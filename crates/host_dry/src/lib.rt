@@ -9,7 +9,6 @@ ghost use Rattle.host_dry.specs.Calls.{dry_run_host};
 use counts::{ClockFrame, Handle, SongFrame};
 use dryrun::{DryAnswer, DryDone};
 use host::HostLoop;
-use transport::LoopRange;
 
 /// What a dry run gives: how many commands the tour has, how many the replay took, how many were executed and how many are still
 /// queued, and where the playhead is then; or a refusal's number and its place.
@@ -44,7 +43,7 @@ fn dry_run_refused(number: u32, place: usize) -> HostDryRun
         song: Handle { slot: 0, serial: 0 },
         state: 0,
         position: SongFrame(0),
-        looped: host::loop_numbers(LoopRange::Off),
+        looped: host::loop_numbers(None),
         laps: 0,
     }
 }

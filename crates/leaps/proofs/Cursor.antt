@@ -2,11 +2,11 @@
 use mathlib.Core.Path.{◌≡◌, refl, sym, ap}
 use mathlib.Core.Bool.{Bool, true, false}
 use Prim.Native.Nat.{ℕ}
+use Rattle.std.specs.Prelude.{Some}
 use Rattle.counts.specs.declared.ClockFrame.{ClockFrame}
 use Rattle.timeline.specs.declared.Command.{Command}
 use Rattle.timeline.specs.declared.QueueRecord.{QueueRecord}
 use Rattle.transport.specs.declared.Transport.{Transport}
-use Rattle.transport.specs.declared.LoopRange.{LoopRange}
 use Rattle.transport.specs.Transport.{loop_fits, step_of}
 use Rattle.transport.proofs.Blind.{blind_steps}
 use Rattle.stage.specs.declared.Settings.{Settings}
@@ -24,9 +24,9 @@ blind_by extent Command.Pause p = refl
 blind_by extent Command.Stop p = refl
 blind_by extent (Command.Seek f) p = refl
 blind_by extent (Command.Transition f) p = refl
-blind_by extent (Command.Loop a e) p = go (loop_fits extent (LoopRange.Range a e)) refl
+blind_by extent (Command.Loop a e) p = go (loop_fits extent (Some (record { start = a; end = e }))) refl
   where
-    go : (b : Bool) → loop_fits extent (LoopRange.Range a e) ≡ b
+    go : (b : Bool) → loop_fits extent (Some (record { start = a; end = e })) ≡ b
         → blind (playhead_by extent (Command.Loop a e) (blind p)) ≡ blind (playhead_by extent (Command.Loop a e) p)
     go true h = rw h
     go false h = rw h

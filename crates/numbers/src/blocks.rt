@@ -6,7 +6,7 @@ use oneshot::{Voice, Voices};
 use print::{number, text};
 use ramp::Ramp;
 use session::{Answered, Desk, Session};
-use stage::{AS_TONO, Counters, Fade, Playhead, Settings, Sound, Stage, Tail};
+use stage::{AS_TONO, Counters, Fade, Playhead, Settings, Sound, Stage};
 use std::io;
 use timeline::Row;
 use transport::{LoopRange, Transport, TransportState};
@@ -91,7 +91,7 @@ fn pool() -> [f32; 2400] {
 fn session(
     song: Handle,
     state: TransportState,
-    looped: LoopRange,
+    looped: Option<LoopRange>,
     master: f32,
     queued: usize,
 ) -> Session {
@@ -103,7 +103,7 @@ fn session(
 fn sounding(
     song: Handle,
     state: TransportState,
-    looped: LoopRange,
+    looped: Option<LoopRange>,
     master: f32,
     voices: Voices,
     queued: usize,
@@ -128,7 +128,7 @@ fn sounding(
             },
             sound: Sound {
                 master: gain,
-                fade: Fade { tail: Tail::None },
+                fade: Fade { tail: None },
                 voices: voices,
             },
             counters: Counters {
@@ -192,7 +192,7 @@ fn run_told(
 fn put_two(queue: &mut [u64; 20]) -> Session {
     timeline::put_row(queue, 0, row(8, 2, PAUSE, 0));
     timeline::put_row(queue, 1, row(8, 1, PLAY, 0));
-    session(LONG, TransportState::Stopped, LoopRange::Off, 1.0, 2)
+    session(LONG, TransportState::Stopped, None, 1.0, 2)
 }
 
 /// A block of 8 executes one, of 0 none, then of 1 the other first.
@@ -229,7 +229,7 @@ fn two_at_8(rt: &impl Print, pool: &[f32]) -> io::Result<()> {
 fn two_frames(rt: &impl Print, pool: &[f32]) -> io::Result<()> {
     let mut queue = [0; 20];
     timeline::put_row(&mut queue, 0, row(0, 1, PLAY, 0));
-    let s = session(SHORT, TransportState::Stopped, LoopRange::Off, 1.0, 1);
+    let s = session(SHORT, TransportState::Stopped, None, 1.0, 1);
     let mut out = [0.0; 8];
     text(rt, b"a song of two frames, Play at 0, a block of 4\n  ")?;
     run_told(rt, s, &queue, pool, &mut out)?;
@@ -242,7 +242,7 @@ fn two_frames(rt: &impl Print, pool: &[f32]) -> io::Result<()> {
 fn gain_zero(rt: &impl Print, pool: &[f32]) -> io::Result<()> {
     let mut queue = [0; 20];
     timeline::put_row(&mut queue, 0, row(0, 1, GAIN, 0));
-    let s = session(LONG, TransportState::Playing, LoopRange::Off, 1.0, 1);
+    let s = session(LONG, TransportState::Playing, None, 1.0, 1);
     let mut out = [0.0; 2];
     text(rt, b"Gain 0 at rest, 0.5 sounds as\n ")?;
     run(s, &queue, pool, &mut out);
@@ -253,7 +253,10 @@ fn gain_zero(rt: &impl Print, pool: &[f32]) -> io::Result<()> {
 /// A loop that wraps inside a block.
 fn loop_wraps(rt: &impl Print, pool: &[f32]) -> io::Result<()> {
     let queue = [0; 20];
-    let looped = LoopRange::Range(SongFrame(2), SongFrame(4));
+    let looped = Some(LoopRange {
+        start: SongFrame(2),
+        end: SongFrame(4),
+    });
     let s = session(LONG, TransportState::Playing, looped, 1.0, 0);
     let mut out = [0.0; 14];
     text(rt, b"loop 2..4 from 0, a block of 7\n  ")?;
@@ -267,7 +270,7 @@ fn loop_wraps(rt: &impl Print, pool: &[f32]) -> io::Result<()> {
 fn swap_tail(rt: &impl Print, pool: &[f32]) -> io::Result<()> {
     let mut queue = [0; 20];
     timeline::put_row(&mut queue, 0, row(0, 1, SWAP, 1));
-    let s = session(LONG, TransportState::Playing, LoopRange::Off, 0.0, 1);
+    let s = session(LONG, TransportState::Playing, None, 0.0, 1);
     let mut out = [0.0; 2050];
     text(
         rt,
@@ -317,7 +320,7 @@ fn voices_end(rt: &impl Print, pool: &[f32]) -> io::Result<()> {
     let mut s = sounding(
         LONG,
         TransportState::Stopped,
-        LoopRange::Off,
+        None,
         1.0,
         sixteen(),
         0,

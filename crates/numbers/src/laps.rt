@@ -26,8 +26,11 @@ fn opened(queue: &[u64; 10], capture: &[u64; 5], pool: &mut [f32; 40]) -> Sessio
     r.session
 }
 
-fn round(start: u64, end: u64) -> LoopRange {
-    LoopRange::Range(SongFrame(start), SongFrame(end))
+fn round(start: u64, end: u64) -> Option<LoopRange> {
+    Some(LoopRange {
+        start: SongFrame(start),
+        end: SongFrame(end),
+    })
 }
 
 // ---- what a call is told by
@@ -65,7 +68,7 @@ fn apply(
     queue: &[u64; 10],
     capture: &[u64; 5],
     position: u64,
-    l: LoopRange,
+    l: Option<LoopRange>,
 ) -> io::Result<Session> {
     let x = PerformanceSnapshot {
         position: SongFrame(position),
@@ -178,7 +181,7 @@ fn set_back(
     text(rt, b"    or a snapshot at 4 with loop 3..8: ")?;
     apply(rt, s, &queue, &capture, 4, round(3, 8))?;
     text(rt, b"    or a snapshot at 4 with no loop: ")?;
-    apply(rt, s, &queue, &capture, 4, LoopRange::Off)?;
+    apply(rt, s, &queue, &capture, 4, None)?;
     Ok(())
 }
 

@@ -9,7 +9,7 @@ use session::Session;
 use stage::{AS_TONO, HOUSE};
 use std::io;
 use timeline::Submission;
-use transport::{LoopRange, TransportState};
+use transport::TransportState;
 
 /// The song that the swap goes to: 2 frames, so that it ends under the tail.
 const SILENCE: Handle = Handle { slot: 1, serial: 2 };
@@ -36,7 +36,7 @@ pub fn rest(s: Session, queue: &[u64; 10], capture: &[u64; 5], gain: f32) -> Ses
         position: SongFrame(0),
         state: TransportState::Playing,
         gain: gain,
-        looped: LoopRange::Off,
+        looped: None,
     };
     let r = control::apply_snapshot(s, queue, capture, x);
     r.session

@@ -7,7 +7,7 @@ use session::{Answered, Refusal, Session};
 use stage::{AS_TONO, HOUSE, Settings};
 use std::io;
 use timeline::{Row, Submission};
-use transport::{At, LoopRange, TransportState};
+use transport::{At, TransportState};
 
 const RATE: u32 = 48000;
 
@@ -443,7 +443,7 @@ fn snapshot_gain(rt: &impl Print) -> io::Result<()> {
         position: SongFrame(1),
         state: TransportState::Playing,
         gain: 2.5,
-        looped: LoopRange::Off,
+        looped: None,
     };
     text(rt, b"  a snapshot of gain 2.5: ")?;
     let r = control::apply_snapshot(s, &queue, &capture, x);

@@ -94,16 +94,11 @@ fn state_word(s: TransportState) -> u32 {
     }
 }
 
-fn range(a: LoopRange, b: LoopRange) -> bool {
-    match a {
-        LoopRange::Off => match b {
-            LoopRange::Off => true,
-            LoopRange::Range(_, _) => false,
-        },
-        LoopRange::Range(s, e) => match b {
-            LoopRange::Off => false,
-            LoopRange::Range(t, f) => (s.0 == t.0) & (e.0 == f.0),
-        },
+fn range(a: Option<LoopRange>, b: Option<LoopRange>) -> bool {
+    match (a, b) {
+        (None, None) => true,
+        (Some(l), Some(r)) => frame(l.start, r.start) && frame(l.end, r.end),
+        _ => false,
     }
 }
 
@@ -134,16 +129,13 @@ fn gain(a: Ramp, b: Ramp) -> bool {
     values & targets & steps & (a.remaining == b.remaining)
 }
 
-fn tail(a: Tail, b: Tail) -> bool {
-    match a {
-        Tail::None => match b {
-            Tail::None => true,
-            Tail::Sounding(_, _, _) => false,
-        },
-        Tail::Sounding(h, c, w) => match b {
-            Tail::None => false,
-            Tail::Sounding(k, d, v) => (h == k) & frame(c, d) & gain(w, v),
-        },
+fn tail(a: Option<Tail>, b: Option<Tail>) -> bool {
+    match (a, b) {
+        (None, None) => true,
+        (Some(t), Some(u)) => {
+            t.song == u.song && frame(t.cursor, u.cursor) && gain(t.weight, u.weight)
+        }
+        _ => false,
     }
 }
 

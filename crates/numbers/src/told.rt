@@ -49,14 +49,14 @@ pub fn place(rt: &impl Print, s: Session) -> io::Result<()> {
     text(rt, b"\n")
 }
 
-pub fn range(rt: &impl Print, l: LoopRange) -> io::Result<()> {
+pub fn range(rt: &impl Print, l: Option<LoopRange>) -> io::Result<()> {
     match l {
-        LoopRange::Off => text(rt, b"no loop"),
-        LoopRange::Range(start, end) => {
+        None => text(rt, b"no loop"),
+        Some(r) => {
             text(rt, b"loop ")?;
-            number(rt, start.0)?;
+            number(rt, r.start.0)?;
             text(rt, b"..")?;
-            number(rt, end.0)
+            number(rt, r.end.0)
         }
     }
 }

@@ -499,10 +499,10 @@ fn loop_laps(line: &mut [u8; ROOM], n: usize, start: u64, end: u64, laps: u64) -
 }
 
 /// The loop that is set, with its laps.
-fn loop_state(line: &mut [u8; ROOM], n: usize, looped: LoopRange, laps: u64) -> usize {
+fn loop_state(line: &mut [u8; ROOM], n: usize, looped: Option<LoopRange>, laps: u64) -> usize {
     match looped {
-        LoopRange::Off => line::put(line, n, b"no loop"),
-        LoopRange::Range(start, end) => loop_laps(line, n, start.0, end.0, laps),
+        None => line::put(line, n, b"no loop"),
+        Some(l) => loop_laps(line, n, l.start.0, l.end.0, laps),
     }
 }
 

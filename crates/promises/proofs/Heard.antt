@@ -3,6 +3,7 @@ use mathlib.Core.Path.{ap}
 use mathlib.Core.List.{List}
 use Prim.Native.Nat.{◌+◌, ◌<◌}
 use lib.Ieee.{Float}
+use Rattle.std.specs.Prelude.{Option, Some, None}
 use Rattle.laws.proofs.Lists.{each_map}
 use Rattle.counts.specs.declared.Claim.{Claim}
 use Rattle.timeline.specs.declared.QueueRecord.{QueueRecord}
@@ -20,9 +21,9 @@ use Rattle.promises.specs.Calls.{State, code}
 use Rattle.promises.specs.Own.{SameForTail, SameForClaim, NothingElse}
 
 module _ (x : State) (pool : List Float) where
-  tail_same : (t : Tail) → SameForTail x pool t → SameTail (view_of x.pool x.session.bank) (view_of pool x.session.bank) t
-  tail_same Tail.None e = tt
-  tail_same (Tail.Sounding h c w) e = e
+  tail_same : (t : Option Tail) → SameForTail x pool t → SameTail (view_of x.pool x.session.bank) (view_of pool x.session.bank) t
+  tail_same None e = tt
+  tail_same (Some t) e = e
 
   claim_same : (y : Claim) → SameForClaim x pool y → SameClaim (view_of x.pool x.session.bank) (view_of pool x.session.bank) y
   claim_same Claim.Nothing e = tt

@@ -6,6 +6,7 @@ use mathlib.Core.List.{List, [], ◌∷◌, ◌++◌}
 use Prim.Native.Nat.{ℕ, ◌+◌, ◌-◌, ◌^◌, ◌<◌, min}
 use native.Mathlib.Omega.{arith}
 use lib.Ieee.{Float}
+use Rattle.std.specs.Prelude.{Some, None}
 use Rattle.laws.specs.Block.{Machine, At, Ran, stand, after, executing, framing}
 use Rattle.laws.specs.Queue.{Each}
 use Rattle.laws.proofs.Stepwise.{Stepwise, block_stepwise}
@@ -13,7 +14,6 @@ use Rattle.counts.proofs.Truth.{never}
 use Rattle.timeline.specs.declared.Command.{Command}
 use Rattle.timeline.specs.declared.QueueRecord.{QueueRecord}
 use Rattle.timeline.specs.Queue.{queue}
-use Rattle.transport.specs.declared.LoopRange.{LoopRange}
 use Rattle.transport.proofs.Passes.{Counts, step_laps, step_counts, looped_counts, loop_counts}
 use Rattle.bank.specs.Sample.{frames_of}
 use Rattle.bank.specs.Recording.{View, view_of}
@@ -48,8 +48,8 @@ exec_counted extent Command.Pause p h = record { none = h.none; low = h.low }
 exec_counted extent Command.Stop p h = record { none = h.none; low = h.low }
 exec_counted extent (Command.Seek f) p h = record { none = h.none; low = h.low }
 exec_counted extent (Command.Transition f) p h = record { none = h.none; low = h.low }
-exec_counted extent (Command.Loop a e) p h = loop_counts extent (LoopRange.Range a e) p.transport h
-exec_counted extent Command.ClearLoop p h = looped_counts LoopRange.Off p.transport
+exec_counted extent (Command.Loop a e) p h = loop_counts extent (Some (record { start = a; end = e })) p.transport h
+exec_counted extent Command.ClearLoop p h = looped_counts None p.transport
 exec_counted extent (Command.Gain g) p h = h
 exec_counted extent (Command.Swap k) p h = record { none = λ e. refl; low = omega arith }
 exec_counted extent (Command.Stinger k g) p h = h

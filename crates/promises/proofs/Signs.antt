@@ -15,6 +15,7 @@ use lib.Ieee.Fits.{up_pos, down_pos, add-fits, mul-fits}
 use lib.Ieee.Exact.{round_exact}
 use lib.Ieee.Order.{round_mono}
 use lib.Ieee.Positive.{positive, above, above_of_le, positive_of_value}
+use Rattle.std.specs.Prelude.{Option, Some, None}
 use Rattle.counts.proofs.Truth.{never}
 use Rattle.laws.specs.Block.{Machine, At, block as block_from}
 use Rattle.laws.specs.Queue.{Each}
@@ -221,11 +222,11 @@ sum_fine : (view : View) (t : Voices) → Both (mix_in view t).sum
 unfolding mix_in fits
 sum_fine view t = mix_fine view (sounding t) silence ((tt, refl), (tt, refl))
 
-share_fits : (x : Settings) (view : View) (g : Float) (t : Tail) (p : Pair) (h : Float)
+share_fits : (x : Settings) (view : View) (g : Float) (t : Option Tail) (p : Pair) (h : Float)
     → T (fits binary32 (with_tail x view g t (times p h)).left) × T (fits binary32 (with_tail x view g t (times p h)).right)
 unfolding with_tail
-share_fits x view g Tail.None p h = (mul-fits binary32 p.left h, mul-fits binary32 p.right h)
-share_fits x view g (Tail.Sounding k c w) p h = (add-fits binary32 _ _, add-fits binary32 _ _)
+share_fits x view g None p h = (mul-fits binary32 p.left h, mul-fits binary32 p.right h)
+share_fits x view g (Some t) p h = (add-fits binary32 _ _, add-fits binary32 _ _)
 
 -- and so is what a frame makes
 frame_fine : (x : Settings) (view : View) (s : Stage) → Both (frame_of x view s).out

@@ -4,6 +4,7 @@ use mathlib.Core.Bool.{true, false, not}
 use mathlib.Core.List.{List}
 use Prim.Native.Nat.{ℕ, suc, ◌/◌, ◌<◌}
 use lib.ListN.{length}
+use Rattle.std.specs.Prelude.{Option, Some, None}
 use Rattle.laws.specs.Block.{stand, block as block_from}
 use Rattle.laws.proofs.Lists.{each_map}
 use Rattle.counts.specs.declared.Handle.{Handle}
@@ -129,9 +130,9 @@ module _ (x : State) (other : View) (g : Good x) (agree : (h : Handle) → Live 
   claim_same (Claim.Song h) e = agree h (song_has x.session.bank x.session.settings.rate h e).alive
   claim_same (Claim.Stinger h) e = agree h (stinger_has x.session.bank x.session.settings.rate h e).alive
 
-  tail_same : (t : Tail) → claim_ok x.session.bank x.session.settings.rate (tail_claim t) ≡ true → SameTail view other t
-  tail_same Tail.None e = tt
-  tail_same (Tail.Sounding h c w) e = claim_same (Claim.Song h) e
+  tail_same : (t : Option Tail) → claim_ok x.session.bank x.session.settings.rate (tail_claim t) ≡ true → SameTail view other t
+  tail_same None e = tt
+  tail_same (Some t) e = claim_same (Claim.Song t.song) e
 
   reads_live : (n : ℕ) → block_from (machine_of x.session.settings other) n (stand x.session.stage (waiting x.session x.queue)) ≡ ran_of x.session x.queue x.pool n
   unfolding ran_of

@@ -7,11 +7,11 @@ use mathlib.Core.List.{List}
 use Prim.Native.Nat.{ℕ, ◌*◌, ◌≤◌}
 use lib.Ieee.{Float}
 use borrow.Author.Tests.{le-leb}
+use Rattle.std.specs.Prelude.{Some}
 use Rattle.counts.specs.declared.Handle.{Handle}
 use Rattle.counts.specs.Counts.{place_of}
 use Rattle.counts.proofs.Truth.{and_true, cond_both}
 use Rattle.timeline.specs.declared.Command.{Command}
-use Rattle.transport.specs.declared.LoopRange.{LoopRange}
 use Rattle.transport.specs.declared.Transport.{Transport}
 use Rattle.transport.specs.Transport.{is_playing, wrap_of, step_of, loop_fits, transport_fits, looped_by}
 use Rattle.transport.specs.Together.{Together}
@@ -68,7 +68,7 @@ exec_together frames extent Command.Stop p l h = inl refl
 exec_together frames extent (Command.Seek f) p l h = seek_together (frames p.song) extent l f p.transport
 exec_together frames extent (Command.Transition f) p l h = seek_together (frames p.song) extent l f p.transport
 exec_together frames extent (Command.Loop a e) p l h =
-    cond_both (Together (frames p.song)) (loop_fits extent (LoopRange.Range a e)) (looped_by (LoopRange.Range a e) p.transport) p.transport h h
+    cond_both (Together (frames p.song)) (loop_fits extent (Some (record { start = a; end = e }))) (looped_by (Some (record { start = a; end = e })) p.transport) p.transport h h
 exec_together frames extent Command.ClearLoop p l h = h
 exec_together frames extent (Command.Gain g) p l h = h
 exec_together frames extent (Command.Swap k) p l h = inl refl

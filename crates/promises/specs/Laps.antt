@@ -1,9 +1,8 @@
 -- 'The session keeps laps since the loop was set, and a block reports the passes made in it, resets aside.' How the two hang together in every session
 -- reached from opening. Definitions only.
-use Rattle.std.specs.Prelude.{◌≡◌, Bool, true, false, List, ◌+◌, ◌-◌, ◌^◌, min, Float}
+use Rattle.std.specs.Prelude.{◌≡◌, Bool, true, false, List, ◌+◌, ◌-◌, ◌^◌, min, Float, None}
 use Rattle.laws.specs.Queue.{Each}
 use Rattle.timeline.specs.declared.Command.{Command}
-use Rattle.transport.specs.declared.LoopRange.{LoopRange}
 use Rattle.bank.specs.Sample.{frames_of}
 use Rattle.stage.specs.Machine.{Told}
 use Rattle.session.specs.Reading.{loop_range_of, laps_of}
@@ -29,7 +28,7 @@ executed_in x out = (ran_of x.session x.queue x.pool (frames_of out)).told
 
 pub record Laps : Type 0 where
   -- without a loop there are no laps,
-  pub none : (x : State) → Reached x → loop_range_of x.session ≡ LoopRange.Off → laps_of x.session ≡ 0
+  pub none : (x : State) → Reached x → loop_range_of x.session ≡ None → laps_of x.session ≡ 0
   -- and a block that executes nothing of the kind raises them by the passes that it reports; they stop at 2^64 - 1
   pub rise : (x : State) (out : List Float) → Reached x → refusal (block out) x ≡ 0 → Each (λ t. sets_back t.command.command ≡ false) (executed_in x out)
       → laps_of (after (block out) x).session ≡ min (laps_of x.session + report_of x out) (2 ^ 64 - 1)

@@ -1,5 +1,5 @@
 -- The rules' worked numbers, as one statement about the definitions. Definitions only.
-use Rattle.std.specs.Prelude.{◌≡◌, true, false, List, [], ◌∷◌, ℕ, ◌*◌, negsuc, replicate, Float}
+use Rattle.std.specs.Prelude.{◌≡◌, true, false, List, [], ◌∷◌, ℕ, ◌*◌, negsuc, replicate, Float, Option, Some, None}
 use Rattle.std.specs.Float.{fin}
 use Rattle.counts.specs.declared.ClockFrame.{ClockFrame}
 use Rattle.counts.specs.declared.SongFrame.{SongFrame}
@@ -42,18 +42,18 @@ Declick = (declick_of 44100 ≡ tween_of 88) × (declick_of 44250 ≡ tween_of 8
 -- ---- clock 500, position 100: song frame 130 gives 530; 90 gives 500; 90 with loop 80..120 gives 530; 79 with it gives 500. At position 120, 90 gives 500
 
 -- the clock frame of song frame t, at clock 500 and position p
-abbrev pub due_of : ℕ → LoopRange → ℕ → ClockFrame
+abbrev pub due_of : ℕ → Option LoopRange → ℕ → ClockFrame
 due_of p l t = deadline_of (clock 500) (transport TransportState.Playing p p l 0) (At.Song (frame t))
 
 -- loop 80..120
-abbrev pub looped : LoopRange
-looped = LoopRange.Range (frame 80) (frame 120)
+abbrev pub looped : Option LoopRange
+looped = Some (record { start = (frame 80); end = (frame 120) })
 
 -- the five
 abbrev pub Deadlines : Type 0
 Deadlines =
-    (due_of 100 LoopRange.Off 130 ≡ clock 530)
-    × (due_of 100 LoopRange.Off 90 ≡ clock 500)
+    (due_of 100 None 130 ≡ clock 530)
+    × (due_of 100 None 90 ≡ clock 500)
     × (due_of 100 looped 90 ≡ clock 530)
     × (due_of 100 looped 79 ≡ clock 500)
     × (due_of 120 looped 90 ≡ clock 500)
@@ -62,7 +62,7 @@ Deadlines =
 
 -- Playing in that loop, at position p and cursor c
 abbrev pub in_loop : ℕ → ℕ → Transport
-in_loop p c = transport TransportState.Playing p c (LoopRange.Range (frame 10) (frame 14)) 0
+in_loop p c = transport TransportState.Playing p c (Some (record { start = (frame 10); end = (frame 14) })) 0
 
 -- rule a, as tono and in house mode
 abbrev pub Wraps : Type 0
@@ -124,7 +124,7 @@ TwoCommands =
     × (refusal (block (lent 0)) (after_block 8 both) ≡ 0)
     × (executed so_far ≡ 1)
     × (executed (after_block 1 so_far) ≡ 2)
-    × (transport_of (after_block 1 so_far) ≡ transport TransportState.Paused 0 0 LoopRange.Off 0)
+    × (transport_of (after_block 1 so_far) ≡ transport TransportState.Paused 0 0 None 0)
     × (executed (after_block 9 both) ≡ 2)
 
 -- ---- song (0.5, -0.5), (0.25, 0.25), length 2, Play at 0, block of 4: those pairs, four zeros; position 2, Stopped

@@ -1,5 +1,5 @@
 -- 'A stale handle .. never reads another clip': a handle stands for its own clip and no other. Definitions only.
-use Rattle.std.specs.Prelude.{◌≡◌, List, ℕ, ◌+◌, ◌<◌, length, Float}
+use Rattle.std.specs.Prelude.{◌≡◌, List, ℕ, ◌+◌, ◌<◌, length, Float, Option, Some, None}
 use Rattle.laws.specs.Queue.{Each}
 use Rattle.counts.specs.declared.Handle.{Handle}
 use Rattle.counts.specs.declared.Claim.{Claim}
@@ -73,9 +73,9 @@ abbrev pub SameFor : State → List Float → Handle → Type 0
 SameFor x pool h = view_of x.pool x.session.bank h ≡ view_of pool x.session.bank h
 
 -- for the tail's
-abbrev pub SameForTail : State → List Float → Tail → Type 0
-SameForTail x pool Tail.None = Unit {0}
-SameForTail x pool (Tail.Sounding h c w) = SameFor x pool h
+abbrev pub SameForTail : State → List Float → Option Tail → Type 0
+SameForTail x pool None = Unit {0}
+SameForTail x pool (Some t) = SameFor x pool t.song
 
 -- and for what a command names
 abbrev pub SameForClaim : State → List Float → Claim → Type 0

@@ -1,5 +1,5 @@
 -- 'A clip can't be retired while song, tail, voice, queue or running capture holds it.' Definitions only.
-use Rattle.std.specs.Prelude.{◌≡◌, true, false, ℕ, ◌<◌}
+use Rattle.std.specs.Prelude.{◌≡◌, true, false, ℕ, ◌<◌, Some}
 use Rattle.counts.specs.declared.Handle.{Handle}
 use Rattle.counts.specs.declared.SongFrame.{SongFrame}
 use Rattle.counts.specs.Handles.{claims}
@@ -9,7 +9,6 @@ use Rattle.timeline.specs.Record.{read_of}
 use Rattle.timeline.specs.Store.{row_at}
 use Rattle.bank.specs.Slots.{live}
 use Rattle.oneshot.specs.Mix.{voice_at}
-use Rattle.stage.specs.declared.Tail.{Tail}
 use Rattle.session.specs.Session.{captured_now}
 use Rattle.promises.specs.Calls.{State, retire, refusal}
 use Rattle.promises.specs.Kept.{Good}
@@ -25,7 +24,7 @@ Stale h x = live x.session.bank h ≡ false
 -- what holds a clip: the song, the tail, a voice that sounds, a queued command, or a record of a running capture
 pub data Holds (h : Handle) (x : State) : Type 0 where
   by_song : x.session.stage.playhead.song ≡ h → Holds h x
-  by_tail : (at : SongFrame) (w : Ramp) → x.session.stage.sound.fade.tail ≡ Tail.Sounding h at w → Holds h x
+  by_tail : (at : SongFrame) (w : Ramp) → x.session.stage.sound.fade.tail ≡ Some (record { song = h; cursor = at; weight = w }) → Holds h x
   by_voice : (i : ℕ) → i < x.session.stage.sound.voices.count → (voice_at x.session.stage.sound.voices i).handle ≡ h → Holds h x
   by_queue : (j : ℕ) → j < x.session.queued → claims h (claim_of (read_of (row_at x.queue j))) ≡ true → Holds h x
   by_capture : (j : ℕ) → j < captured_now x.session.desk → claims h (claim_of (read_of (row_at x.capture j))) ≡ true → Holds h x

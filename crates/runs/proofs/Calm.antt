@@ -9,7 +9,7 @@ use native.Mathlib.Numerals.{add-one}
 use native.Mathlib.Omega.{arith}
 use lib.Dec.{ltb}
 use lib.ListN.{get_or, set}
-use Rattle.std.specs.Prelude.{Option}
+use Rattle.std.specs.Prelude.{Option, Some, None}
 use lib.Ieee.{Float, binary32, nan, add, mul}
 use borrow.Author.Tests.{eq-eqb, ne_eqb}
 use Rattle.transport.specs.declared.Transport.{Transport}
@@ -51,10 +51,10 @@ transport_none frames t = go (is_playing t.state)
     go true = rw (add-zero t.position.0, cursor_none frames t.cursor.0) refl
     go false = refl
 
-tail_none : (frames : ℕ) (t : Tail) → tail_by frames 0 t ≡ t
+tail_none : (frames : ℕ) (t : Option Tail) → tail_by frames 0 t ≡ t
 unfolding ticks_of
-tail_none frames Tail.None = refl
-tail_none frames (Tail.Sounding h c w) = rw (cursor_none frames c.0) refl
+tail_none frames None = refl
+tail_none frames (Some t) = rw (cursor_none frames t.cursor.0) refl
 
 pub core_none : (song tail : ℕ) (c : Core) → core_by song tail 0 c ≡ c
 unfolding ticks_of
@@ -159,11 +159,11 @@ module _ (pool : List Float) (x : Settings) (song clip : Clip) (c : Core) (n : �
       ap (λ p. add binary32 (side k p) y) e ∙ ap (λ a. add binary32 a y) (side_at leads k)
 
   -- with the parts of the pool
-  over_adds_law : (u : Tail) (p : Option ℕ) (a y : Float) (k : ℕ) → Fading clip.frames n u → k < n * 2 → share_of pool p k ≡ a
+  over_adds_law : (u : Option Tail) (p : Option ℕ) (a y : Float) (k : ℕ) → Fading clip.frames n u → k < n * 2 → share_of pool p k ≡ a
       → over_adds (is_house x) pool p clip c.master u k y ≡ add binary32 (tail_adds t x (gain_at c.master (k / 2)) u k (mul binary32 a (gain_at c.master (k / 2)))) y
-  over_adds_law Tail.None p a y k f lt e = ap (λ b. add binary32 y (mul binary32 b (gain_at c.master (k / 2)))) e ∙ add_swap binary32 y (mul binary32 a (gain_at c.master (k / 2)))
-  over_adds_law (Tail.Sounding i d w) p a y k f lt e =
-      rw (e, part_share pool clip d.0 n k f.1 lt) refl
+  over_adds_law None p a y k f lt e = ap (λ b. add binary32 y (mul binary32 b (gain_at c.master (k / 2)))) e ∙ add_swap binary32 y (mul binary32 a (gain_at c.master (k / 2)))
+  over_adds_law (Some t) p a y k f lt e =
+      rw (e, part_share pool clip t.cursor.0 n k f.1 lt) refl
 
   pub calm_over : (os : List Float) → over (over_adds (is_house x) pool (song_part song c.playhead.transport) clip c.master c.fade.tail) 0 (n * 2) os ≡ over (core_adds x s t c) 0 (n * 2) os
   calm_over os =

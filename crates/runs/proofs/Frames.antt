@@ -7,6 +7,7 @@ use native.Mathlib.Numerals.{add-one}
 use native.Mathlib.Omega.{arith}
 use lib.ListN.{length, take-append-drop}
 use lib.Ieee.{Float}
+use Rattle.std.specs.Prelude.{Option, Some, None}
 use Rattle.ramp.specs.Number.{zero32}
 use Rattle.bank.specs.Recording.{Recording, View}
 use Rattle.oneshot.specs.declared.Pair.{Pair}
@@ -43,19 +44,19 @@ stage_on s v n c =
     record { clock = record { 0 = s.clock.0 + n }; playhead = c.playhead; sound = sound c.master c.fade.tail v; counters = s.counters }
 
 -- where there is a tail, it sounds as t
-abbrev pub Tails : View → Recording → Tail → Type 0
+abbrev pub Tails : View → Recording → Option Tail → Type 0
 Tails view t u = OfTail (λ h w. view h ≡ t) u
 
 module _ (x : Settings) (view : View) (t : Recording) where
-  tails_on : (u : Tail) → Tails view t u → tail_on view u ≡ tail_on (only t) u
+  tails_on : (u : Option Tail) → Tails view t u → tail_on view u ≡ tail_on (only t) u
   unfolding tail_on
-  tails_on Tail.None e = refl
-  tails_on (Tail.Sounding h c w) e = rw e refl
+  tails_on None e = refl
+  tails_on (Some t) e = rw e refl
 
-  tails_with : (g : Float) (u : Tail) (p : Pair) → Tails view t u → with_tail x view g u p ≡ with_tail x (only t) g u p
+  tails_with : (g : Float) (u : Option Tail) (p : Pair) → Tails view t u → with_tail x view g u p ≡ with_tail x (only t) g u p
   unfolding with_tail
-  tails_with g Tail.None p e = refl
-  tails_with g (Tail.Sounding h c w) p e = rw e refl
+  tails_with g None p e = refl
+  tails_with g (Some t) p e = rw e refl
 
   tails_after : (s : Recording) (n : ℕ) (c : Core) → Tails view t c.fade.tail → Tails view t (core_after x s t n c).fade.tail
   unfolding core_after core_on

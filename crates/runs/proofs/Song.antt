@@ -6,6 +6,7 @@ use native.Mathlib.Omega.{arith}
 use lib.Dec.{leb, ltb}
 use lib.Ieee.{Float}
 use borrow.Author.Tests.{ltb-true, ltb-false, lt-ltb, lt-leb}
+use Rattle.std.specs.Prelude.{Option, Some, None}
 use Rattle.ramp.specs.Number.{zero32}
 use Rattle.counts.specs.declared.SongFrame.{SongFrame}
 use Rattle.transport.specs.declared.TransportState.{TransportState}
@@ -71,20 +72,20 @@ no_lap : (k : ℕ) → k < 2 ^ 64 → min (k + 0) (2 ^ 64 - 1) ≡ k
 no_lap k h = omega arith
 
 -- the transport's step
-step_parts : (house : Bool) (st : TransportState) (p c k : ℕ) (l : LoopRange) (frames extent n j : ℕ) → Steady frames extent n (transport st p c l k) → j < n
+step_parts : (house : Bool) (st : TransportState) (p c k : ℕ) (l : Option LoopRange) (frames extent n j : ℕ) → Steady frames extent n (transport st p c l k) → j < n
     → step_of house frames extent (transport_by frames j (transport st p c l k)) ≡ stepped frames j (transport st p c l k)
 unfolding step_of wrap_of advance_of is_past comes_round
 step_parts house TransportState.Stopped p c k l frames extent n j h lt = rw (no_lap k h.laps) refl
 step_parts house TransportState.Paused p c k l frames extent n j h lt = rw (no_lap k h.laps) refl
-step_parts house TransportState.Playing p c k LoopRange.Off frames extent n j h lt =
+step_parts house TransportState.Playing p c k None frames extent n j h lt =
     let a : p + n < extent = h.end refl in
     let q : leb extent (p + j + 1) ≡ false = lt-leb extent (p + j + 1) (omega arith) in
     let r : p + j + 1 ≡ p + (j + 1) = omega arith in
     rw (q, r, cursor_frame frames c n j (h.inside refl) lt, no_lap k h.laps) refl
-step_parts house TransportState.Playing p c k (LoopRange.Range s e) frames extent n j h lt =
-    let a : p + n < e.0 = h.end refl in
-    let o : leb e.0 (p + j) ≡ false = lt-leb e.0 (p + j) (omega arith) in
-    let q : leb e.0 (p + j + 1) ≡ false = lt-leb e.0 (p + j + 1) (omega arith) in
+step_parts house TransportState.Playing p c k (Some l) frames extent n j h lt =
+    let a : p + n < l.end.0 = h.end refl in
+    let o : leb l.end.0 (p + j) ≡ false = lt-leb l.end.0 (p + j) (omega arith) in
+    let q : leb l.end.0 (p + j + 1) ≡ false = lt-leb l.end.0 (p + j + 1) (omega arith) in
     let r : p + j + 1 ≡ p + (j + 1) = omega arith in
     rw (o, q, r, cursor_frame frames c n j (h.inside refl) lt, no_lap k h.laps) refl
 

@@ -22,9 +22,9 @@ cursor_by frames c n = cond (ltb c frames) (c + n) c
 abbrev pub transport_by : ℕ → ℕ → Transport → Transport
 transport_by frames n t = cond (is_playing t.state) (moved_to t (t.position.0 + n) (cursor_by frames t.cursor.0 n)) t
 
-abbrev pub tail_by : ℕ → ℕ → Tail → Tail
-tail_by frames n Tail.None = Tail.None
-tail_by frames n (Tail.Sounding h c w) = Tail.Sounding h (record { 0 = cursor_by frames c.0 n }) (ticks_of n w)
+abbrev pub tail_by : ℕ → ℕ → Option Tail → Option Tail
+tail_by frames n None = None
+tail_by frames n (Some t) = Some (record { song = t.song; cursor = record { 0 = cursor_by frames t.cursor.0 n }; weight = ticks_of n t.weight })
 
 -- where the song has so many frames, and the tail's clip
 abbrev pub core_by : ℕ → ℕ → ℕ → Core → Core
@@ -38,9 +38,9 @@ core_by song tail n c =
 -- ---- that nothing is decided anew in them
 
 -- where the position must not come to: the loop's end, without a loop the length
-abbrev pub end_of : ℕ → LoopRange → ℕ
-end_of extent LoopRange.Off = extent
-end_of extent (LoopRange.Range s e) = e.0
+abbrev pub end_of : ℕ → Option LoopRange → ℕ
+end_of extent None = extent
+end_of extent (Some l) = l.end.0
 
 -- a cursor does not pass its clip's end
 abbrev pub Inside : ℕ → ℕ → ℕ → Type 0
@@ -54,9 +54,9 @@ pub record Steady (frames extent n : ℕ) (t : Transport) : Type 0 where
   pub laps : t.laps < 2 ^ 64
 
 -- a tail's weight does not land
-abbrev pub Fading : ℕ → ℕ → Tail → Type 0
-Fading frames n Tail.None = Unit {0}
-Fading frames n (Tail.Sounding h c w) = (n < w.remaining) × Inside frames c.0 n
+abbrev pub Fading : ℕ → ℕ → Option Tail → Type 0
+Fading frames n None = Unit {0}
+Fading frames n (Some t) = (n < t.weight.remaining) × Inside frames t.cursor.0 n
 
 -- where the song's clip is x, and the tail's y
 pub record Calm (x y : Clip) (n : ℕ) (c : Core) : Type 0 where
@@ -74,17 +74,17 @@ abbrev pub song_part : Clip → Transport → Option ℕ
 song_part x t = cond (is_playing t.state) (part_of x t.cursor.0) None
 
 -- song and tail over the sums, where the tail's clip is x
-abbrev pub over_adds : Bool → List Float → Option ℕ → Clip → Ramp → Tail → ℕ → Float → Float
-over_adds house pool s x g Tail.None = adds pool s g
-over_adds house pool s x g (Tail.Sounding h c w) = both_adds house pool s (part_of x c.0) g w
+abbrev pub over_adds : Bool → List Float → Option ℕ → Clip → Ramp → Option Tail → ℕ → Float → Float
+over_adds house pool s x g None = adds pool s g
+over_adds house pool s x g (Some t) = both_adds house pool s (part_of x t.cursor.0) g t.weight
 
-pub record OverReady (pool : List Float) (s : Option ℕ) (x : Clip) (n out : ℕ) (t : Tail) : Type 0 where
+pub record OverReady (pool : List Float) (s : Option ℕ) (x : Clip) (n out : ℕ) (t : Option Tail) : Type 0 where
   pub room : n * 2 ≤ out
   pub song : Reads (length pool) s (n * 2)
   pub clip : LiesIn (length pool) x
   pub tail : Fading x.frames n t
 
 -- the slot of the tail's clip; without a tail the song's
-abbrev pub slot_of : Tail → Handle → ℕ
-slot_of Tail.None h = h.slot
-slot_of (Tail.Sounding k c w) h = k.slot
+abbrev pub slot_of : Option Tail → Handle → ℕ
+slot_of None h = h.slot
+slot_of (Some t) h = t.song.slot

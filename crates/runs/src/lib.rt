@@ -22,7 +22,7 @@ use oneshot::{Pair, Voice, Voices};
 use ramp::Ramp;
 use stage::{Fade, Playhead, Settings, Sound, Stage, Tail};
 use sweeps::Stream;
-use transport::{LoopRange, Transport};
+use transport::Transport;
 
 /// So many frames of a voice whose clip has more: each adds its share.
 fn voice_on(v: Voice, pool: &[f32], clip: Clip, out: &mut [f32], frames: usize) -> Voice
@@ -308,26 +308,25 @@ fn over_sums(
     requires { OverReady pool.now song clip n (length out.old) fade.tail }
     ensures { (result.master ≡ ticks_of n master) × (result.fade.tail ≡ tail_by clip.frames n fade.tail) × (out.new ≡ over (over_adds house pool.now song clip master fade.tail) 0 (n * 2) out.old) }
 {
-    let tail = fade.tail;
-    match tail {
-        Tail::None => {
+    match fade.tail {
+        None => {
             let g = sweeps::add_part(pool, song, out, n, master);
             Over {
                 master: g,
                 fade: fade,
             }
         }
-        Tail::Sounding(h, cursor, weight) => {
-            let part = part_of(clip, cursor);
-            let gains = sweeps::add_both(house, pool, song, part, out, n, master, weight);
-            let g = gains.master;
-            let w = gains.weight;
-            let on = cursor_by(clip.frames, cursor, n);
+        Some(t) => {
+            let part = part_of(clip, t.cursor);
+            let gains = sweeps::add_both(house, pool, song, part, out, n, master, t.weight);
+            let tail = Tail {
+                cursor: cursor_by(clip.frames, t.cursor, n),
+                weight: gains.weight,
+                ..t
+            };
             Over {
-                master: g,
-                fade: Fade {
-                    tail: Tail::Sounding(h, on, w),
-                },
+                master: gains.master,
+                fade: Fade { tail: Some(tail) },
             }
         }
     }
@@ -371,11 +370,7 @@ fn position_ahead(position: u64, end: u64, most: usize) -> usize
 fn end_of(t: Transport, extent: SongFrame) -> u64
     ensures { result ≡ end_of extent.0 t.looped }
 {
-    let looped = t.looped;
-    match looped {
-        LoopRange::Off => extent.0,
-        LoopRange::Range(_, end) => end.0,
-    }
+    t.looped.map_or(extent.0, |l| l.end.0)
 }
 
 /// At most so many frames in which a transport neither wraps nor stops.
@@ -393,15 +388,14 @@ fn song_ahead(t: Transport, frames: u64, extent: SongFrame, most: usize) -> usiz
 }
 
 /// At most so many frames in which the tail's weight does not land.
-fn tail_ahead(tail: Tail, frames: u64, most: usize) -> usize
+fn tail_ahead(tail: Option<Tail>, frames: u64, most: usize) -> usize
     ensures { (result ≤ most) × (0 < result → Fading frames result tail) }
 {
     match tail {
-        Tail::None => most,
-        Tail::Sounding(_, cursor, weight) => {
-            let reads = cursor_ahead(frames, cursor, most);
-            let left = weight.remaining as u64;
-            position_ahead(0, left, reads)
+        None => most,
+        Some(t) => {
+            let reads = cursor_ahead(frames, t.cursor, most);
+            position_ahead(0, t.weight.remaining as u64, reads)
         }
     }
 }
@@ -590,13 +584,10 @@ fn over_frames(
 // ---- all of it
 
 /// The slot of the tail's clip; without a tail the song's.
-fn tail_slot(tail: Tail, song: Handle) -> u32
+fn tail_slot(tail: Option<Tail>, song: Handle) -> u32
     ensures { result ≡ slot_of tail song }
 {
-    match tail {
-        Tail::None => song.slot,
-        Tail::Sounding(h, _, _) => h.slot,
-    }
+    tail.map_or(song.slot, |t| t.song.slot)
 }
 
 /// A stage so many frames on, and the passes made in them.

@@ -8,6 +8,7 @@ use lib.Dec.{leb, eqb, ltb}
 use lib.ListN.{length}
 use lib.Ieee.{Float, le}
 use borrow.Author.Tests.{eq-eqb, eqb-true, le-leb, leb-true, lt-ltb}
+use Rattle.std.specs.Prelude.{Option, Some, None}
 use Rattle.counts.specs.declared.Handle.{Handle}
 use Rattle.counts.specs.declared.Claim.{Claim}
 use Rattle.counts.specs.Below.{within}
@@ -49,32 +50,32 @@ use Rattle.session.proofs.Ready.{first_gain, first_held, first_counted, first_vo
 
 -- ---- the tail
 
-weight_has : (t : Tail) → weight_ok t ≡ true → TailWeighs t
-weight_has Tail.None e = tt
-weight_has (Tail.Sounding h k w) e =
-    let few : Bool = within 1 tail_frames w.remaining in
-    let zero : Bool = between zero32 zero32 w.target in
+weight_has : (t : Option Tail) → weight_ok t ≡ true → TailWeighs t
+weight_has None e = tt
+weight_has (Some t) e =
+    let few : Bool = within 1 tail_frames t.weight.remaining in
+    let zero : Bool = between zero32 zero32 t.weight.target in
     record {
-      from = within_low 1 tail_frames w.remaining (and_l few zero e);
-      to = within_high 1 tail_frames w.remaining (and_l few zero e);
+      from = within_low 1 tail_frames t.weight.remaining (and_l few zero e);
+      to = within_high 1 tail_frames t.weight.remaining (and_l few zero e);
       target = and_r few zero e;
     }
 
-weight_is : (t : Tail) → TailWeighs t → weight_ok t ≡ true
-weight_is Tail.None w = refl
-weight_is (Tail.Sounding h k r) w = and_true (within_is 1 tail_frames r.remaining w.from w.to) w.target
+weight_is : (t : Option Tail) → TailWeighs t → weight_ok t ≡ true
+weight_is None w = refl
+weight_is (Some t) w = and_true (within_is 1 tail_frames t.weight.remaining w.from w.to) w.target
 
 module _ (s : Session) where
-  abbrev TailHeld : Tail → Type 0
+  abbrev TailHeld : Option Tail → Type 0
   TailHeld = OfTail (λ h w. held s (Claim.Song h) ≡ true)
 
-  tail_has : (t : Tail) → tail_held s t ≡ true → TailHeld t
-  tail_has Tail.None e = tt
-  tail_has (Tail.Sounding h k w) e = e
+  tail_has : (t : Option Tail) → tail_held s t ≡ true → TailHeld t
+  tail_has None e = tt
+  tail_has (Some t) e = e
 
-  tail_is : (t : Tail) → TailHeld t → tail_held s t ≡ true
-  tail_is Tail.None e = refl
-  tail_is (Tail.Sounding h k w) e = e
+  tail_is : (t : Option Tail) → TailHeld t → tail_held s t ≡ true
+  tail_is None e = refl
+  tail_is (Some t) e = e
 
   -- ---- a voice, a frame on
 

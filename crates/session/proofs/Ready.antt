@@ -8,6 +8,7 @@ use lib.Dec.{eqb, ltb}
 use lib.ListN.{length}
 use lib.Ieee.{Float}
 use borrow.Author.Tests.{eqb-true, ltb-true}
+use Rattle.std.specs.Prelude.{Option, Some, None}
 use Rattle.counts.specs.declared.Handle.{Handle}
 use Rattle.counts.specs.declared.Claim.{Claim}
 use Rattle.counts.proofs.Truth.{and_l, and_r}
@@ -50,9 +51,9 @@ module _ (s : Session) (q c : List ℕ) (w : well_formed s q c ≡ true) where
     lies : (h : Handle) → live s.bank h ≡ true → (h.slot < 32) × LiesIn (length pool) (clip_of s.bank h)
     lies h e = ((live_has s.bank h e).among, live_lies s.bank s.settings.pool (parts s q c w).bank pool fits h e)
 
-    fades : (t : Tail) → tail_held s t ≡ true → Fades (length pool) s.bank t
-    fades Tail.None e = tt
-    fades (Tail.Sounding h k r) e = lies h (song_live s h e)
+    fades : (t : Option Tail) → tail_held s t ≡ true → Fades (length pool) s.bank t
+    fades None e = tt
+    fades (Some t) e = lies t.song (song_live s t.song e)
 
     sounds : (v : Voice) → voice_held s v ≡ true → head_ok s v ≡ true → Sounds (length pool) s.bank v
     sounds v e h =

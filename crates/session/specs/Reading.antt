@@ -1,5 +1,5 @@
 -- What a host reads of a session, with no refusal. Definitions only.
-use Rattle.std.specs.Prelude.{ℕ, Bool, Float}
+use Rattle.std.specs.Prelude.{ℕ, Bool, Float, Option}
 use Rattle.counts.specs.declared.ClockFrame.{ClockFrame}
 use Rattle.counts.specs.declared.SongFrame.{SongFrame}
 use Rattle.counts.specs.declared.Handle.{Handle}
@@ -21,7 +21,7 @@ abbrev pub transport_state_of : Session → TransportState
 transport_state_of s = s.stage.playhead.transport.state
 
 -- the loop, if one is set
-abbrev pub loop_range_of : Session → LoopRange
+abbrev pub loop_range_of : Session → Option LoopRange
 loop_range_of s = s.stage.playhead.transport.looped
 
 -- the laps since the loop was set

@@ -1,5 +1,5 @@
 -- Well formed: the rules' paragraph, clause by clause and in its order. Definitions only.
-use Rattle.std.specs.Prelude.{ℕ, ◌+◌, ◌*◌, ◌%◌, ◌^◌, Bool, true, not, ◌&&◌, List, leb, ltb, eqb, length, Result, Ok}
+use Rattle.std.specs.Prelude.{ℕ, ◌+◌, ◌*◌, ◌%◌, ◌^◌, Bool, true, not, ◌&&◌, List, leb, ltb, eqb, length, Result, Ok, Option, Some, None}
 use Rattle.counts.specs.Below.{within, all_below}
 use Rattle.counts.specs.declared.Claim.{Claim}
 use Rattle.ramp.specs.Number.{zero32, two32, sixteen32, between}
@@ -56,9 +56,9 @@ abbrev pub held : Session → Claim → Bool
 held s c = claim_ok s.bank s.settings.rate c
 
 -- the song that a swap left behind
-abbrev pub tail_held : Session → Tail → Bool
-tail_held s Tail.None = true
-tail_held s (Tail.Sounding h c w) = held s (Claim.Song h)
+abbrev pub tail_held : Session → Option Tail → Bool
+tail_held s None = true
+tail_held s (Some t) = held s (Claim.Song t.song)
 
 -- the clip of a voice
 abbrev pub voice_held : Session → Voice → Bool
@@ -109,9 +109,9 @@ unfoldable pub master_ok : Session → Bool
 master_ok s = leb s.stage.sound.master.remaining master_frames && between zero32 two32 s.stage.sound.master.target
 
 -- the weight of a tail, if there is one
-abbrev pub weight_ok : Tail → Bool
-weight_ok Tail.None = true
-weight_ok (Tail.Sounding h c w) = within 1 tail_frames w.remaining && between zero32 zero32 w.target
+abbrev pub weight_ok : Option Tail → Bool
+weight_ok None = true
+weight_ok (Some t) = within 1 tail_frames t.weight.remaining && between zero32 zero32 t.weight.target
 
 -- a voice's target is from 0 to 16
 abbrev pub gain_ok : Session → Voice → Bool
@@ -126,7 +126,7 @@ abbrev pub voice_ok : Session → Voice → Bool
 voice_ok s v = voice_held s v && head_ok s v && gain_ok s v
 
 -- and of a tail: its clip and its weight
-abbrev pub tail_ok : Session → Tail → Bool
+abbrev pub tail_ok : Session → Option Tail → Bool
 tail_ok s t = tail_held s t && weight_ok t
 
 -- ---- executed + queued <= last number; swaps + stingers fired <= executed

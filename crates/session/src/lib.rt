@@ -23,7 +23,7 @@ use bank::{Bank, Clip};
 use counts::{ClockFrame, Handle, SongFrame};
 use oneshot::{Voice, Voices};
 use ramp::Ramp;
-use stage::{Counters, HOUSE, Playhead, Settings, Stage, Tail};
+use stage::{Counters, HOUSE, Playhead, Settings, Stage};
 use timeline::Row;
 use transport::{LoopRange, TransportState};
 
@@ -79,20 +79,14 @@ impl Session {
     pub fn state(self) -> TransportState
         ensures { result ≡ transport_state_of self }
     {
-        let stage = self.stage;
-        let playhead = stage.playhead;
-        let transport = playhead.transport;
-        transport.state
+        self.stage.playhead.transport.state
     }
 
     /// The loop, if one is set.
-    pub fn loop_range(self) -> LoopRange
+    pub fn loop_range(self) -> Option<LoopRange>
         ensures { result ≡ loop_range_of self }
     {
-        let stage = self.stage;
-        let playhead = stage.playhead;
-        let transport = playhead.transport;
-        transport.looped
+        self.stage.playhead.transport.looped
     }
 
     /// The laps since the loop was set.
@@ -286,16 +280,10 @@ pub fn stores_ok(x: Settings, queue: &[u64], capture: &[u64]) -> bool
 fn song_ok(used: u32, clip: Clip, rate: u32, p: Playhead) -> bool
     ensures { (b : Bank) → b.used ≡ used → (p.song.slot < 32 → clip_of b p.song ≡ clip) → result ≡ claim_ok b rate (Song p.song) && transport_fits (extent_of (clip_of b p.song).kind) p.transport }
 {
-    let h = p.song;
-    if !bank::song_held(used, clip, rate, h) {
+    if !bank::song_held(used, clip, rate, p.song) {
         return false;
     }
-    let kind = clip.kind;
-    let extent = bank::extent_of(kind);
-    let transport = p.transport;
-    let looped = transport.looped;
-    let fits = looped.fits(extent);
-    (transport.position.0 <= extent.0) & fits
+    p.transport.fits(bank::extent_of(clip.kind))
 }
 
 /// The tail's clip is held, and its weight has 1 to 1,024 frames left, its target 0.
@@ -495,14 +483,12 @@ pub fn formed(
             return false;
         }
     }
-    let fade = stage.sound.fade;
-    let tail = fade.tail;
-    match tail {
-        Tail::None => true,
-        Tail::Sounding(h, _, w) => {
-            let place = bank::place_of(h);
+    match stage.sound.fade.tail {
+        None => true,
+        Some(t) => {
+            let place = bank::place_of(t.song);
             let clip = bank.clips[place];
-            tail_ok(bank.used, clip, settings.rate, h, w)
+            tail_ok(bank.used, clip, settings.rate, t.song, t.weight)
         }
     }
 }

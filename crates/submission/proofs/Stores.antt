@@ -8,6 +8,7 @@ use native.Mathlib.Numerals.{add-one}
 use lib.Dec.{leb}
 use lib.ListN.{length}
 use borrow.Author.Tests.{leb-false}
+use Rattle.std.specs.Prelude.{Option, Some, None}
 use Rattle.counts.specs.Below.{all_below}
 use Rattle.counts.proofs.Truth.{and_true, not_true}
 use Rattle.counts.proofs.Below.{all_at, all_true}
@@ -98,9 +99,9 @@ module _ (s : Session) (q c : List ℕ) (p : Parts s q c) where
         special = p.special;
       }
     where
-      tail : (t : Tail) → tail_held s t ≡ true → tail_held (with_queue s n d) t ≡ true
-      tail Tail.None e = e
-      tail (Tail.Sounding h f w) e = e
+      tail : (t : Option Tail) → tail_held s t ≡ true → tail_held (with_queue s n d) t ≡ true
+      tail None e = e
+      tail (Some t) e = e
 
 -- a capture keeps in order while later numbers are given
 pub capture_stays : (s : Session) (last next m : ℕ) (c : List ℕ) → last ≤ next → Captures s last m c → Captures s next m c

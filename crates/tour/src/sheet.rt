@@ -162,10 +162,10 @@ fn state(rt: &impl Print, s: TransportState) -> io::Result<()> {
     }
 }
 
-fn tail(rt: &impl Print, t: Tail) -> io::Result<()> {
+fn tail(rt: &impl Print, t: Option<Tail>) -> io::Result<()> {
     match t {
-        Tail::None => text(rt, b"  none"),
-        Tail::Sounding(h, _, _) => fading(rt, h),
+        None => text(rt, b"  none"),
+        Some(t) => fading(rt, t.song),
     }
 }
 

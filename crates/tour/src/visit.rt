@@ -8,7 +8,7 @@ use session::{Refusal, Session};
 use stage::{AS_TONO, Settings};
 use std::io;
 use timeline::Submission;
-use transport::{At, LoopRange, TransportState};
+use transport::{At, TransportState};
 
 const RATE: u32 = 8000;
 
@@ -224,7 +224,7 @@ fn taken(a: Result<PerformanceSnapshot, Refusal>) -> PerformanceSnapshot {
             position: SongFrame(0),
             state: TransportState::Stopped,
             gain: 1.0,
-            looped: LoopRange::Off,
+            looped: None,
         },
     }
 }

@@ -6,5 +6,5 @@ pub returns-in-None : goal.returns-in-None
 unfolding of_bits
 returns-in-None c = simp (c.in-None.is, c.new.ensures)
 
-pub returns-in-Sounding : goal.returns-in-Sounding
-returns-in-Sounding c = simp c.in-Sounding.is
+pub returns-in-Some : goal.returns-in-Some
+returns-in-Some c = simp c.in-Some.is

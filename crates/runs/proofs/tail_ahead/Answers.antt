@@ -7,8 +7,8 @@ pub returns-in-None : goal.returns-in-None
 returns-in-None c =
     (omega arith, λ h. rw c.in-None.is tt)
 
-pub returns-in-Sounding : goal.returns-in-Sounding
-returns-in-Sounding c =
+pub returns-in-Some : goal.returns-in-Some
+returns-in-Some c =
     let p = c.position_ahead.ensures in
     let q = c.cursor_ahead-reads.ensures in
-    (omega (arith, p.0, q.0), λ h. rw c.in-Sounding.is (omega (arith, p.1 h), inside_fewer _ _ _ _ q.1 p.0))
+    (omega (arith, p.0, q.0), λ h. rw c.in-Some.is (omega (arith, p.1 h), inside_fewer _ _ _ _ q.1 p.0))

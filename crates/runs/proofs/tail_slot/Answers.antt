@@ -2,5 +2,5 @@
 use mathlib.Core.Path.{refl}
 use Rattle.runs.proofs.tail_slot.Goals as goal
 
-pub returns-in-Sounding : goal.returns-in-Sounding
-returns-in-Sounding c = rw c.in-Sounding.is refl
+pub returns-in-Some : goal.returns-in-Some
+returns-in-Some c = rw c.in-Some.is refl

@@ -164,8 +164,8 @@ returns-in-None c =
     } in
     decides _ _ _ _ (λ e. settled (ap (tail_ok s) c.in-None.is)) (λ k. refl)
 
-pub returns-in-Sounding : goal.returns-in-Sounding
-returns-in-Sounding c =
+pub returns-in-Some : goal.returns-in-Some
+returns-in-Some c =
     let s : Session = record { settings = c.args.settings; bank = c.args.bank; stage = c.args.stage; queued = c.args.queued; desk = c.args.desk } in
     let numbers : numbers_ok s ≡ true = passes (numbers_is s _ _ c.captured_now-captured.ensures c.numbers_ok.ensures) c.if-not-numbers_ok.false in
     let few = (numbers_has s numbers).voices in
@@ -189,5 +189,5 @@ returns-in-Sounding c =
       master = passes (master_is s _ c.master_ok.ensures) c.if-not-master_ok.false;
       counts = passes (counts_is s _ c.counts_ok.ensures) c.if-not-counts_ok.false;
     } in
-    let clip = clip_read c.args.bank c.args.bank refl m _ _ _ c.place_of-place-in-Sounding.ensures in
-    c.tail_ok.ensures c.args.bank refl clip ∙ sym (ap (tail_ok s) c.in-Sounding.is) ∙ decides _ _ _ _ settled (λ k. k.tail)
+    let clip = clip_read c.args.bank c.args.bank refl m _ _ _ c.place_of-place-in-Some.ensures in
+    c.tail_ok.ensures c.args.bank refl clip ∙ sym (ap (tail_ok s) c.in-Some.is) ∙ decides _ _ _ _ settled (λ k. k.tail)

@@ -13,4 +13,4 @@ returns c b e f =
     let a = c.args in
     let h = passes (c.song_held.ensures b e f) c.if-not-song_held.false in
     let l = (live_has b a.p.song (song_has b a.rate a.p.song h).alive).among in
-    rw (h, f l, c.fits-fits.ensures, c.extent_of-extent.ensures) refl
+    rw (h, f l, c.fits.ensures, c.extent_of.ensures) refl
