@@ -30,8 +30,11 @@ pub ticks_next : (j : ℕ) (r : Ramp) → (tick_of (ticks_of j r)).ramp ≡ tick
 unfolding ticks_of
 ticks_next j r = rw add-one refl
 
+abbrev sounding : Handle → SongFrame → Ramp → Option Tail
+sounding h c w = Some (record { song = h; cursor = c; weight = w })
+
 -- a weight that has not landed stays
-stays : (h : Handle) (c d : SongFrame) (u v : Ramp) → c ≡ d → u ≡ v → eqb v.remaining 0 ≡ false → cond (eqb u.remaining 0) None (Some (record { song = h; cursor = c; weight = u })) ≡ Some (record { song = h; cursor = d; weight = v })
+stays : (h : Handle) (c d : SongFrame) (u v : Ramp) → c ≡ d → u ≡ v → eqb v.remaining 0 ≡ false → cond (eqb u.remaining 0) None (sounding h c u) ≡ sounding h d v
 stays h c d u v a b e = rw (a, b, e) refl
 
 -- a tail's share, side by side
