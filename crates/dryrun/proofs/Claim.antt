@@ -11,12 +11,13 @@ use lib.ListN.{length, take}
 use lib.Seq.{length-take-le}
 use lib.Ieee.{Float}
 use borrow.Author.Tests.{leb-true}
+use Rattle.std.specs.Prelude.{Ok, Err}
 use Rattle.counts.proofs.Truth.{two_ways}
 use Rattle.laws.specs.Queue.{Each}
 use Rattle.laws.specs.Block.{Ran}
 use Rattle.fields.specs.Field.{fields_of}
 use Rattle.tourfile.specs.declared.Fault.{Fault}
-use Rattle.tourfile.specs.declared.TourAnswer.{TourAnswer}
+use Rattle.tourfile.specs.Answer.{TourAnswer}
 use Rattle.tourfile.specs.Answer.{fault_number}
 use Rattle.tourfile.specs.Reader.{read_of, rows_in, put_rows}
 use Rattle.tourfile.proofs.Answers.{done_read, read_filled, length_puts}
@@ -64,7 +65,7 @@ module _ (mode : ℕ) (clips file blocks : List ℕ) (x : Lent) (long : length x
   formed : well_formed s x.queue [] ≡ true
   formed = made_formed mode clips ok x.queue size
 
-  module _ (n : ℕ) (read : read_of (clips_of s.bank) file 1280 ≡ TourAnswer.Done n) where
+  module _ (n : ℕ) (read : read_of (clips_of s.bank) file 1280 ≡ Ok n) where
     -- the store with the tour at its front
     abbrev words : List ℕ
     words = put_rows x.records 0 (rows_in (clips_of s.bank) (fields_of file))
@@ -119,7 +120,7 @@ module _ (mode : ℕ) (clips file blocks : List ℕ) (x : Lent) (long : length x
 
       reads : Reads file x done left t
       reads =
-          let read-own : read_of (clips_of t.bank) file (length x.records) ≡ TourAnswer.Done n = rw (← same_clips, long) read in
+          let read-own : read_of (clips_of t.bank) file (length x.records) ≡ Ok n = rw (← same_clips, long) read in
           record { commands = read-own; records = rw same_clips (read_filled (clips_of t.bank) file x.records n read-own) }
 
       plays : Plays x done left (replay_of t p c tour) c pool outs
@@ -148,8 +149,8 @@ module _ (mode : ℕ) (clips file blocks : List ℕ) (x : Lent) (long : length x
       go false = refl
 
   tour_promised : (a : TourAnswer) → read_of (clips_of s.bank) file 1280 ≡ a → Promised mode clips file blocks x (tour_ran s file blocks x a).0 (tour_ran s file blocks x a).1
-  tour_promised (TourAnswer.Refused f at) e = reader_promised f at
-  tour_promised (TourAnswer.Done n) e = go (leb (frames_in blocks) (2 ^ 62)) refl
+  tour_promised (Err x) e = reader_promised f at
+  tour_promised (Ok n) e = go (leb (frames_in blocks) (2 ^ 62)) refl
     where
       go : (b : Bool) → leb (frames_in blocks) (2 ^ 62) ≡ b
           → let y : DryAnswer × Lent = cond b (records_ran s n (frames_in blocks) (lent (words n e) x.reasons x.queue x.sheet)) (DryAnswer.Refused DryRefusal.Clock 0, x) in Promised mode clips file blocks x y.0 y.1

@@ -4,9 +4,10 @@ use mathlib.Core.Bool.{true, false}
 use mathlib.Core.List.{List}
 use Prim.Native.Nat.{ℕ, ◌^◌, ◌≤◌, ◌<◌}
 use borrow.Author.Tests.{le-leb, lt-leb}
+use Rattle.std.specs.Prelude.{Ok, Err}
 use Rattle.fields.specs.Field.{fields_of}
 use Rattle.tourfile.specs.declared.Fault.{Fault}
-use Rattle.tourfile.specs.declared.TourAnswer.{TourAnswer}
+use Rattle.tourfile.specs.Answer.{TourAnswer, error_at}
 use Rattle.tourfile.specs.Reader.{read_of, rows_in, put_rows}
 use Rattle.session.specs.declared.Session.{Session}
 use Rattle.clips.specs.Own.{clips_of}
@@ -35,10 +36,10 @@ ran_records s n frames x z e k f r w g =
 
 module _ (s : Session) (file blocks : List ℕ) (x : Lent) (a : TourAnswer) where
   -- refused by the reader,
-  pub tour_refused : (f : Fault) (at : ℕ) → a ≡ TourAnswer.Refused f at → (by_reader f at, x) ≡ tour_ran s file blocks x a
+  pub tour_refused : (f : Fault) (at : ℕ) → a ≡ Err (error_at f at) → (by_reader f at, x) ≡ tour_ran s file blocks x a
   tour_refused f at e = rw e refl
 
-  module _ (n : ℕ) (e : a ≡ TourAnswer.Done n) where
+  module _ (n : ℕ) (e : a ≡ Ok n) where
     -- past the clock's end,
     pub tour_late : 2 ^ 62 < frames_in blocks → (DryAnswer.Refused DryRefusal.Clock 0, x) ≡ tour_ran s file blocks x a
     tour_late h = rw (e, lt-leb (frames_in blocks) (2 ^ 62) h) refl

@@ -1,7 +1,6 @@
 -- What a dry run promises of the full session. Definitions only.
 use Rattle.std.specs.Prelude.{◌≡◌, false, List, ℕ, ◌*◌, length, take, Float, Ok}
 use Rattle.laws.specs.Queue.{Each}
-use Rattle.tourfile.specs.declared.TourAnswer.{TourAnswer}
 use Rattle.tourfile.specs.Reader.{read_of, read_into}
 use Rattle.bank.specs.Sample.{frames_of, is_odd}
 use Rattle.session.specs.declared.Session.{Session}
@@ -30,7 +29,7 @@ tour_of d y = take (d.commands * 5) y.records
 
 -- a dry run that was lent x, gave d and left y has read the tour as a session does with its own list of handles
 pub record Reads (file : List ℕ) (x : Lent) (d : DryDone) (y : Lent) (t : Session) : Type 0 where
-  pub commands : read_of (clips_of t.bank) file (length x.records) ≡ TourAnswer.Done d.commands
+  pub commands : read_of (clips_of t.bank) file (length x.records) ≡ Ok d.commands
   pub records : y.records ≡ read_into (clips_of t.bank) file x.records
 
 -- it has done what a session does that has replayed the tour and makes blocks: the same report; the same clock, song, position, state,

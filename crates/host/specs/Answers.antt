@@ -9,7 +9,7 @@ use Rattle.session.specs.Answer as rules
 use Rattle.session.specs.WellFormed.{well_formed}
 use Rattle.ring.specs.declared.SampleRing.{SampleRing}
 use Rattle.ring.specs.declared.Drained.{Drained}
-use Rattle.tourfile.specs.declared.TourAnswer.{TourAnswer}
+use Rattle.tourfile.specs.Answer.{TourAnswer, error_at}
 use Rattle.tourfile.specs.Answer.{fault_number, SaysTour, gives, refuses}
 use Rattle.remains.specs.declared.SalvageAnswer.{SalvageAnswer}
 use Rattle.remains.specs.Salvage.{SaysSalvage, gives as gives_salvage, refuses as refuses_salvage}
@@ -178,8 +178,8 @@ abbrev pub toured : ℕ → ℕ → ℕ → HostTour
 toured n x at = record { refusal = n; count = x; place = at }
 
 abbrev pub toured_by : TourAnswer → HostTour
-toured_by (TourAnswer.Done n) = toured 0 n 0
-toured_by (TourAnswer.Refused x at) = toured (fault_number x) 0 at
+toured_by (Ok n) = toured 0 n 0
+toured_by (Err (error_at x at)) = toured (fault_number x) 0 at
 
 -- what it says: a number of 0 is how many
 abbrev pub says_tour_by : HostTour → SaysTour

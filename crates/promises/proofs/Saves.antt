@@ -9,6 +9,7 @@ use borrow.Author.Tests.{eqb-true, ne_eqb, lt-ltb, le-ltb, lt-leb, leb-true, ltb
 use lib.ListN.{length, take, drop, get_or}
 use lib.Seq.{length-take-le, take_at}
 use lib.Dec.{ltb, eqb, eqb-suc-zero}
+use Rattle.std.specs.Prelude.{Ok}
 use Rattle.counts.specs.Below.{all_below, any_below, within}
 use Rattle.counts.proofs.Truth.{and_true, and_l, and_r, and_false_l, and_false_r, cond_both}
 use Rattle.counts.proofs.Below.{all_at, any_false}
@@ -21,8 +22,6 @@ use Rattle.fields.specs.declared.Part.{Part}
 use Rattle.fields.specs.Clips.{is_handle, is_listed, handle_at, twice_at, listed_twice, clip_byte}
 use Rattle.fields.specs.Field.{is_clip, first_part, has_clip}
 use Rattle.fields.proofs.Places.{clip_back}
-use Rattle.tourfile.specs.declared.Judged.{Judged}
-use Rattle.tourfile.specs.declared.TourAnswer.{TourAnswer}
 use Rattle.tourfile.specs.Answer.{says_tour, refuses, gives as gives_tour}
 use Rattle.tourfile.specs.Writer.{rows_from, records_of, file_of, unlisted, late, record_judged_of, records_weighed, write_of}
 use Rattle.tourfile.proofs.Judging.{skip}
@@ -130,13 +129,13 @@ not_late ws (suc i) before s e =
     and_false_r (ltb 0 (suc i)) (lt-leb (row_at ws (suc i)).number before (omega arith))
 
 -- what is readable, listed and not late is not at fault
-fine_judged : (clips : List ℕ) (i before : ℕ) (x : Row) → FineRecord clips i before x → record_judged_of clips i before x ≡ Judged.Fine
+fine_judged : (clips : List ℕ) (i before : ℕ) (x : Row) → FineRecord clips i before x → record_judged_of clips i before x ≡ (Ok tt)
 unfolding record_judged_of
 fine_judged clips i before x f = sym (skip _ _ _ _ (ap not f.reads) (skip _ _ _ _ f.listed (skip _ _ _ _ f.rises refl)))
 
 -- records that are readable, listed and rising from i on are weighed without fault
 all_fine : (clips ws : List ℕ) (k i before : ℕ) → ((j : ℕ) → j < i + k → readable (row_at ws j) ≡ true) → ((j : ℕ) → j < i + k → unlisted clips (row_at ws j) ≡ false)
-    → ((j : ℕ) → j < i + k → rising_at ws j ≡ true) → (0 < i → before ≡ (row_at ws (i - 1)).number) → records_weighed clips i before (rows_from ws i k) ≡ TourAnswer.Done (i + k)
+    → ((j : ℕ) → j < i + k → rising_at ws j ≡ true) → (0 < i → before ≡ (row_at ws (i - 1)).number) → records_weighed clips i before (rows_from ws i k) ≡ Ok (i + k)
 unfolding records_weighed rows_from
 all_fine clips ws zero i before r u s e = let z : i + 0 ≡ i = omega arith in rw z refl
 all_fine clips ws (suc k) i before r u s e =
@@ -144,12 +143,12 @@ all_fine clips ws (suc k) i before r u s e =
     let same : i + 1 + k ≡ i + suc k = omega arith in
     let prior : i + 1 - 1 ≡ i = omega arith in
     rw (fine_judged clips i before (row_at ws i) (record { reads = r i here; listed = u i here; rises = not_late ws i before (s i here) e }))
-    (all_fine clips ws k (i + 1) (row_at ws i).number (λ j l. r j (omega arith)) (λ j l. u j (omega arith)) (λ j l. s j (omega arith)) (λ l. ap (λ (m : ℕ). (row_at ws m).number) (sym prior)) ∙ ap TourAnswer.Done same)
+    (all_fine clips ws k (i + 1) (row_at ws i).number (λ j l. r j (omega arith)) (λ j l. u j (omega arith)) (λ j l. s j (omega arith)) (λ l. ap (λ (m : ℕ). (row_at ws m).number) (sym prior)) ∙ ap Ok same)
 
 -- ---- the writer
 
 -- at most 4,096 records without fault, with a list that has nothing twice: the output decides
-fine_writes : (clips : List ℕ) (xs : List Row) (room : ℕ) → listed_twice clips ≡ false → records_weighed clips 0 0 xs ≡ TourAnswer.Done (length xs) → length xs ≤ 4096
+fine_writes : (clips : List ℕ) (xs : List Row) (room : ℕ) → listed_twice clips ≡ false → records_weighed clips 0 0 xs ≡ Ok (length xs) → length xs ≤ 4096
     → (length (file_of clips xs) ≤ room → says_tour (write_of clips xs room) ≡ gives_tour (length (file_of clips xs))) × (room < length (file_of clips xs) → says_tour (write_of clips xs room) ≡ refuses 115 0)
 unfolding write_of
 fine_writes clips xs room t e h =
@@ -160,7 +159,7 @@ fine_writes clips xs room t e h =
 
 -- a well formed session's captured records are at most 4,096, and none is at fault
 captured_fine : (s : Session) (q c : List ℕ) → well_formed s q c ≡ true → s.bank.last < 2 ^ 32
-    → (captured_now s.desk ≤ 4096) × (records_weighed (clips_of s.bank) 0 0 (rows_from c 0 (captured_now s.desk)) ≡ TourAnswer.Done (captured_now s.desk))
+    → (captured_now s.desk ≤ 4096) × (records_weighed (clips_of s.bank) 0 0 (rows_from c 0 (captured_now s.desk)) ≡ Ok (captured_now s.desk))
 unfolding capture_ok entry_ok
 captured_fine s q c formed small =
     let n : ℕ = captured_now s.desk in

@@ -3,8 +3,9 @@ use mathlib.Core.Path.{◌≡◌, refl}
 use mathlib.Core.Bool.{false}
 use lib.ListN.{length}
 use lib.Dec.{eqb}
+use Rattle.std.specs.Prelude.{Ok, Err}
 use Rattle.tourfile.specs.declared.Fault.{Fault}
-use Rattle.tourfile.specs.declared.TourAnswer.{TourAnswer}
+use Rattle.tourfile.specs.Answer.{TourAnswer}
 use Rattle.tourfile.specs.Answer.{fault_number, says_tour}
 use Rattle.tourfile.specs.Reader.{read_of}
 use Rattle.tourfile.specs.Writer.{records_of, write_of}
@@ -33,8 +34,8 @@ number_some Fault.Unreadable = refl
 number_some Fault.OutputTooShort = refl
 
 toured_says : (a : TourAnswer) → says_tour_by (toured_by a) ≡ says_tour a
-toured_says (TourAnswer.Done n) = refl
-toured_says (TourAnswer.Refused x at) = rw (number_some x) refl
+toured_says (Ok n) = refl
+toured_says (Err e) = rw (number_some x) refl
 
 salvaged_says : (a : SalvageAnswer) → says_salvage_by (salvaged_by a) ≡ says_salvage a
 salvaged_says (SalvageAnswer.Done t) = refl

@@ -10,6 +10,8 @@ use borrow.Author.Tests.{eqb-true, ne_eqb, lt-ltb, ltb-true, ltb-false, leb-fals
 use lib.ListN.{length, get_or, take, drop, length-drop, take-append-drop}
 use lib.Seq.{take_all, drop-cons}
 use lib.Dec.{leb, ltb, eqb}
+use Rattle.std.specs.Prelude.{Ok, Err}
+use Rattle.std.proofs.Common.{Break, Continue}
 use Rattle.laws.specs.Order.{all, any}
 use Rattle.counts.proofs.Truth.{and_true, and_l, and_r, or_none, lt_or_le, never}
 use Rattle.timeline.specs.Record.{readable}
@@ -20,11 +22,9 @@ use Rattle.fields.proofs.Fields.{piece_some, front_length, fields_none, fields_f
 use Rattle.fields.proofs.Numbers.{two_part, four_small, two_left, eight_left, part}
 use Rattle.fields.proofs.Places.{clip_back}
 use Rattle.fields.proofs.Parts.{second_no_clip, clip_first, part_same}
-use Rattle.tourfile.specs.declared.Judged.{Judged}
+use Rattle.tourfile.specs.Answer.{Judged}
 use Rattle.tourfile.specs.declared.Progress.{Progress}
-use Rattle.tourfile.specs.declared.TourAnswer.{TourAnswer}
-use Rattle.tourfile.specs.declared.Turn.{Turn}
-use Rattle.tourfile.specs.Reader.{start, wrong_first, unknown_tag, other_version, unknown_kind, not_listed, not_rising, too_many, wrong_count, bytes_after, judged_of, behind, settled, turn_of, or_else, weighed, row_in, rows_in}
+use Rattle.tourfile.specs.Reader.{Turn, start, wrong_first, unknown_tag, other_version, unknown_kind, not_listed, not_rising, too_many, wrong_count, bytes_after, judged_of, behind, settled, turn_of, or_else, weighed, row_in, rows_in}
 use Rattle.tourfile.specs.Writer.{head_bytes, command_bytes, version_bytes, last_bytes, tail_bytes, unlisted, late, record_judged_of, records_weighed, file_of}
 use Rattle.tourfile.specs.Steps.{front_turn}
 use Rattle.tourfile.proofs.Judging.{skip, not_done}
@@ -159,14 +159,14 @@ module _ (f : List ℕ) (small : (i : ℕ) → get_or f i 0 < 256) where
       unfolding late row_in not_rising
       q_late = rw t at q.rising
 
-      record_fine : Judged.Fine ≡ record_judged_of clips p.count p.last (row_in clips f)
+      record_fine : (Ok tt) ≡ record_judged_of clips p.count p.last (row_in clips f)
       unfolding record_judged_of
       record_fine = skip _ _ _ _ (ap not record_readable) (skip _ _ _ _ q_unlisted (skip _ _ _ _ q_late refl))
 
 -- ---- the whole file
 
 -- where nothing is left, the last field is not there
-no_field : (clips : List ℕ) (n : ℕ) (p : Progress) (rest : List ℕ) → length rest ≡ 0 → weighed clips p (fields_of rest) ≡ TourAnswer.Done n → ⊥
+no_field : (clips : List ℕ) (n : ℕ) (p : Progress) (rest : List ℕ) → length rest ≡ 0 → weighed clips p (fields_of rest) ≡ Ok n → ⊥
 unfolding weighed
 no_field clips n p rest z e = not_done (rw (fields_none rest z) at e)
 
@@ -174,7 +174,7 @@ module _ (clips : List ℕ) (n : ℕ) (u : listed_twice clips ≡ false) where
   -- what is left of a file with no skipped tags is the rest of the file that is written
   pub record Same (p : Progress) (rest : List ℕ) : Type 0 where
     pub bytes : tail_bytes clips n (rows_in clips (fields_of rest)) ≡ rest
-    pub fine : records_weighed clips p.count p.last (rows_in clips (fields_of rest)) ≡ TourAnswer.Done n
+    pub fine : records_weighed clips p.count p.last (rows_in clips (fields_of rest)) ≡ Ok n
     pub few : n ≤ 4096
 
   module _ (p : Progress) (rest : List ℕ) (h : 0 < length rest) (b : all is_byte rest ≡ true) where
@@ -216,7 +216,7 @@ module _ (clips : List ℕ) (n : ℕ) (u : listed_twice clips ≡ false) where
           let e : rows_in clips (fields_of rest) ≡ [] = rw (fields_front rest h, t, fields_none later z) refl in
           record {
             bytes = rw e (ap last_bytes (sym c) ∙ last_same f small clips p more q is_field t ∙ take_all (piece_size rest) rest l);
-            fine = rw e (ap TourAnswer.Done c);
+            fine = rw e (ap Ok c);
             few = omega arith;
           }
 
@@ -234,13 +234,13 @@ module _ (clips : List ℕ) (n : ℕ) (u : listed_twice clips ≡ false) where
         let x : true ≡ false = rw (ne_eqb p.at 0 z, t2, t3, s) at q.tag in
         never x
 
-    tail_step : ((r : Progress) → 0 < r.at → r.count ≤ 4096 → weighed clips r (fields_of later) ≡ TourAnswer.Done n → Same r later)
-        → 0 < p.at → p.count ≤ 4096 → is_skipped f ≡ false → weighed clips p (fields_of rest) ≡ TourAnswer.Done n → Same p rest
+    tail_step : ((r : Progress) → 0 < r.at → r.count ≤ 4096 → weighed clips r (fields_of later) ≡ Ok n → Same r later)
+        → 0 < p.at → p.count ≤ 4096 → is_skipped f ≡ false → weighed clips p (fields_of rest) ≡ Ok n → Same p rest
     unfolding front_turn turn_of settled behind
     tail_step ih at c k e = go (judged_of clips p more f) refl (sym (weighed_front clips p rest h) ∙ e)
       where
         on : (x : Bool) → eqb (tag_of f) 2 ≡ x → eqb (tag_of f) 3 ≡ false → Passed clips p more f
-            → weighed clips (cond x (record { at = p.at + length f; count = p.count + 1; last = number_in f }) (record { at = p.at + length f; count = p.count; last = p.last })) (fields_of later) ≡ TourAnswer.Done n → Same p rest
+            → weighed clips (cond x (record { at = p.at + length f; count = p.count + 1; last = number_in f }) (record { at = p.at + length f; count = p.count; last = p.last })) (fields_of later) ≡ Ok n → Same p rest
         on true t t3 q e =
             let t2 : tag_of f ≡ 2 = eqb-true (tag_of f) 2 t in
             let l = q_few f small clips p more q t2 in
@@ -248,34 +248,34 @@ module _ (clips : List ℕ) (n : ℕ) (u : listed_twice clips ≡ false) where
         on false t t3 q e = absurd (no_other q at k t t3)
 
         pick : (x : Bool) → eqb (tag_of f) 3 ≡ x → Passed clips p more f
-            → or_else (cond x (Turn.Stop (TourAnswer.Done p.count)) (Turn.On (behind p f))) (λ r. weighed clips r (fields_of later)) ≡ TourAnswer.Done n → Same p rest
+            → or_else (cond {A = Turn} x (Break (Ok p.count)) (Continue (behind p f))) (λ r. weighed clips r (fields_of later)) ≡ Ok n → Same p rest
         pick true t q e =
             let m : p.count ≡ n = cc in
             last_step q (eqb-true (tag_of f) 3 t) m c
         pick false t q e = on (eqb (tag_of f) 2) refl t q e
 
-        go : (j : Judged) → judged_of clips p more f ≡ j → or_else (settled j p f) (λ r. weighed clips r (fields_of later)) ≡ TourAnswer.Done n → Same p rest
-        go (Judged.Faulty x) j e = absurd (not_done e)
-        go Judged.Fine j e = pick (eqb (tag_of f) 3) refl (fine_passed clips p more f j) e
+        go : (j : Judged) → judged_of clips p more f ≡ j → or_else (settled j p f) (λ r. weighed clips r (fields_of later)) ≡ Ok n → Same p rest
+        go (Err x) j e = absurd (not_done e)
+        go (Ok u) j e = pick (eqb (tag_of f) 3) refl (fine_passed clips p more f j) e
 
     -- the first field of a file is the version's
-    first_step : p ≡ start → weighed clips p (fields_of rest) ≡ TourAnswer.Done n
-        → (version_bytes ≡ f) × (tag_of f ≡ 1) × (weighed clips (record { at = length f; count = 0; last = 0 }) (fields_of later) ≡ TourAnswer.Done n)
+    first_step : p ≡ start → weighed clips p (fields_of rest) ≡ Ok n
+        → (version_bytes ≡ f) × (tag_of f ≡ 1) × (weighed clips (record { at = length f; count = 0; last = 0 }) (fields_of later) ≡ Ok n)
     unfolding front_turn turn_of settled behind wrong_first
     first_step s e = go (judged_of clips p more f) refl (sym (weighed_front clips p rest h) ∙ e)
       where
-        go : (j : Judged) → judged_of clips p more f ≡ j → or_else (settled j p f) (λ r. weighed clips r (fields_of later)) ≡ TourAnswer.Done n
-            → (version_bytes ≡ f) × (tag_of f ≡ 1) × (weighed clips (record { at = length f; count = 0; last = 0 }) (fields_of later) ≡ TourAnswer.Done n)
-        go (Judged.Faulty x) j e = absurd (not_done e)
-        go Judged.Fine j e =
+        go : (j : Judged) → judged_of clips p more f ≡ j → or_else (settled j p f) (λ r. weighed clips r (fields_of later)) ≡ Ok n
+            → (version_bytes ≡ f) × (tag_of f ≡ 1) × (weighed clips (record { at = length f; count = 0; last = 0 }) (fields_of later) ≡ Ok n)
+        go (Err x) j e = absurd (not_done e)
+        go (Ok u) j e =
             let q : Passed clips p more f = fine_passed clips p more f j in
             let o : not (eqb (tag_of f) 1) ≡ false = rw s at q.opens in
             let t : tag_of f ≡ 1 = eqb-true (tag_of f) 1 (not-false (eqb (tag_of f) 1) o) in
-            let w : weighed clips (record { at = 0 + length f; count = 0; last = 0 }) (fields_of later) ≡ TourAnswer.Done n = rw (t, s) at e in
+            let w : weighed clips (record { at = 0 + length f; count = 0; last = 0 }) (fields_of later) ≡ Ok n = rw (t, s) at e in
             (version_same f small clips p more q (is_field q) t, t, rw (zero-add (length f)) at w)
 
   tail_back : (k : ℕ) (p : Progress) (rest : List ℕ) → length rest ≤ k → 0 < p.at → p.count ≤ 4096 → all is_byte rest ≡ true → any is_skipped (fields_of rest) ≡ false
-      → weighed clips p (fields_of rest) ≡ TourAnswer.Done n → Same p rest
+      → weighed clips p (fields_of rest) ≡ Ok n → Same p rest
   tail_back zero p rest l at c b s e = absurd (no_field clips n p rest (omega arith) e)
   tail_back (suc k) p rest l at c b s e =
       ⊎_elim
@@ -286,7 +286,7 @@ module _ (clips : List ℕ) (n : ℕ) (u : listed_twice clips ≡ false) where
       (λ (h : length rest ≤ 0). absurd (no_field clips n p rest (omega arith) e)) (lt_or_le 0 (length rest))
 
 -- what an accepted file says of the file that its records give
-module _ (clips file : List ℕ) (n : ℕ) (b : all is_byte file ≡ true) (u : listed_twice clips ≡ false) (e : weighed clips start (fields_of file) ≡ TourAnswer.Done n) (s : any is_skipped (fields_of file) ≡ false) where
+module _ (clips file : List ℕ) (n : ℕ) (b : all is_byte file ≡ true) (u : listed_twice clips ≡ false) (e : weighed clips start (fields_of file) ≡ Ok n) (s : any is_skipped (fields_of file) ≡ false) where
   some_file : 0 < length file
   some_file = ⊎_elim (λ (h : 0 < length file). h) (λ (h : length file ≤ 0). absurd (no_field clips n start file (omega arith) e)) (lt_or_le 0 (length file))
 
@@ -313,5 +313,5 @@ module _ (clips file : List ℕ) (n : ℕ) (b : all is_byte file ≡ true) (u : 
       let t : tail_bytes clips (length (rows_in clips (fields_of file))) (rows_in clips (fields_of file)) ≡ behind_first = rw (k, rows_later) same_later.bytes in
       ap₂ (λ (x y : List ℕ). x ++ y) v t ∙ take-append-drop (piece_size file) file
 
-  pub records_fine : (records_weighed clips 0 0 (rows_in clips (fields_of file)) ≡ TourAnswer.Done n) × (n ≤ 4096)
+  pub records_fine : (records_weighed clips 0 0 (rows_in clips (fields_of file)) ≡ Ok n) × (n ≤ 4096)
   records_fine = (rw rows_later same_later.fine, same_later.few)

@@ -7,6 +7,7 @@ use native.Mathlib.Omega.{arith}
 use borrow.Author.Tests.{eqb-false, eq-eqb, ne_eqb, le-ltb, le-leb, lt-leb}
 use lib.ListN.{length, get_or, length-append}
 use lib.Dec.{eqb}
+use Rattle.std.specs.Prelude.{Ok}
 use Rattle.counts.specs.Below.{within}
 use Rattle.counts.proofs.Truth.{and_true, and_l, and_false_l, and_false_r, never}
 use Rattle.timeline.specs.declared.Row.{Row}
@@ -16,9 +17,7 @@ use Rattle.fields.specs.Clips.{is_listed, clip_byte}
 use Rattle.fields.specs.Field.{is_whole, is_more, tag_of, clip_in, is_kind, first_part, second_part, part_size, carried, is_clip, has_clip, part_in, part_bytes}
 use Rattle.fields.proofs.Places.{found_listed}
 use Rattle.fields.proofs.Parts.{length_part, second_no_clip, clip_first, part_back, at_behind, part_behind}
-use Rattle.tourfile.specs.declared.Judged.{Judged}
 use Rattle.tourfile.specs.declared.Progress.{Progress}
-use Rattle.tourfile.specs.declared.TourAnswer.{TourAnswer}
 use Rattle.tourfile.specs.Answer.{first}
 use Rattle.tourfile.specs.Reader.{start, wrong_first, unknown_tag, wrong_length, other_version, unknown_kind, not_listed, not_rising, too_many, wrong_count, bytes_after, judged_of, behind, settled, turn_of, weighed, row_in, rows_in}
 use Rattle.tourfile.specs.Writer.{head_bytes, command_bytes, version_bytes, last_bytes, unlisted, late, records_weighed}
@@ -136,7 +135,7 @@ module _ (clips : List ℕ) (p : Progress) (more : Bool) (x : Row) (h : 0 < p.at
   unfolding bytes_after
   f_after = rw (tag_written clips x) refl
 
-  fine_command : Judged.Fine ≡ judged_of clips p more (command_bytes clips x)
+  fine_command : (Ok tt) ≡ judged_of clips p more (command_bytes clips x)
   unfolding judged_of
   fine_command =
       skip _ _ _ _ f_whole (skip _ _ _ _ f_first (skip _ _ _ _ f_tag (skip _ _ _ _ f_length (skip _ _ _ _ f_version (skip _ _ _ _ f_known
@@ -144,11 +143,11 @@ module _ (clips : List ℕ) (p : Progress) (more : Bool) (x : Row) (h : 0 < p.at
 
 -- ---- the version and the count
 
-pub fine_version : (clips : List ℕ) (more : Bool) → judged_of clips start more version_bytes ≡ Judged.Fine
+pub fine_version : (clips : List ℕ) (more : Bool) → judged_of clips start more version_bytes ≡ (Ok tt)
 unfolding judged_of first is_whole two wrong_first unknown_tag wrong_length other_version unknown_kind not_listed not_rising too_many wrong_count bytes_after
 fine_version clips more = refl
 
-pub fine_last : (clips : List ℕ) (p : Progress) → 0 < p.at → judged_of clips p false (last_bytes p.count) ≡ Judged.Fine
+pub fine_last : (clips : List ℕ) (p : Progress) → 0 < p.at → judged_of clips p false (last_bytes p.count) ≡ (Ok tt)
 unfolding judged_of first is_whole two wrong_first unknown_tag wrong_length other_version unknown_kind not_listed not_rising too_many wrong_count bytes_after
 fine_last clips p h =
     let n : p.at ≡ 0 → ⊥ = λ z. omega arith in
@@ -162,8 +161,8 @@ unfolding behind
 command_behind clips p x = rw (tag_written clips x, number_written clips x) refl
 
 module _ (clips : List ℕ) where
-  weighed_tail : (xs : List Row) (p : Progress) (n : ℕ) → 0 < p.at → p.count + length xs ≡ n → n ≤ 4096 → records_weighed clips p.count p.last xs ≡ TourAnswer.Done n
-      → weighed clips p (map (command_bytes clips) xs ++ (last_bytes n ∷ [])) ≡ TourAnswer.Done n
+  weighed_tail : (xs : List Row) (p : Progress) (n : ℕ) → 0 < p.at → p.count + length xs ≡ n → n ≤ 4096 → records_weighed clips p.count p.last xs ≡ Ok n
+      → weighed clips p (map (command_bytes clips) xs ++ (last_bytes n ∷ [])) ≡ Ok n
   unfolding weighed turn_of settled
   weighed_tail [] p n h e m w = let c : n ≡ p.count = omega arith in rw (c, fine_last clips p h) refl
   weighed_tail (x ∷ xs) p n h e m w =
@@ -173,7 +172,7 @@ module _ (clips : List ℕ) where
       let b = command_behind clips p x in
       rw (← j, tag_written clips x, b) (weighed_tail xs (record { at = p.at + length (command_bytes clips x); count = p.count + 1; last = x.number }) n (omega arith) (omega arith) m q.1)
 
-  rows_tail : (xs : List Row) (i before m n : ℕ) → records_weighed clips i before xs ≡ TourAnswer.Done m → rows_in clips (map (command_bytes clips) xs ++ (last_bytes n ∷ [])) ≡ map plain xs
+  rows_tail : (xs : List Row) (i before m n : ℕ) → records_weighed clips i before xs ≡ Ok m → rows_in clips (map (command_bytes clips) xs ++ (last_bytes n ∷ [])) ≡ map plain xs
   unfolding rows_in
   rows_tail [] i before m n w = refl
   rows_tail (x ∷ xs) i before m n w =
@@ -181,11 +180,11 @@ module _ (clips : List ℕ) where
       rw (tag_written clips x) (ap₂ ◌∷◌ (row_back clips x q.0.listed) (rows_tail xs (i + 1) x.number m n q.1))
 
   -- what was written is read, where no record was at fault and there were at most 4,096
-  module _ (xs : List Row) (w : records_weighed clips 0 0 xs ≡ TourAnswer.Done (length xs)) where
+  module _ (xs : List Row) (w : records_weighed clips 0 0 xs ≡ Ok (length xs)) where
     abbrev written : List (List ℕ)
     written = version_bytes ∷ (map (command_bytes clips) xs ++ (last_bytes (length xs) ∷ []))
 
-    pub read_back : length xs ≤ 4096 → weighed clips start written ≡ TourAnswer.Done (length xs)
+    pub read_back : length xs ≤ 4096 → weighed clips start written ≡ Ok (length xs)
     unfolding weighed turn_of settled behind
     read_back m =
         rw (fine_version clips (is_more (map (command_bytes clips) xs ++ (last_bytes (length xs) ∷ [])))) (weighed_tail xs (record { at = 5; count = 0; last = 0 }) (length xs) (omega arith) (omega arith) m w)

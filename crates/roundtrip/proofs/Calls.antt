@@ -9,13 +9,14 @@ use borrow.Author.Tests.{le-ltb, ltb-false}
 use lib.ListN.{length, take, drop}
 use lib.Seq.{sets, sets-eq, take-append_seam, drop-append_seam, drop-set-lt}
 use lib.Dec.{ltb}
+use Rattle.std.specs.Prelude.{Ok, Err}
 use Rattle.timeline.specs.declared.Row.{Row}
 use Rattle.timeline.specs.Store.{row_at, put_row}
 use Rattle.timeline.proofs.Rows.{length_put, row_same, row_other}
 use Rattle.fields.specs.Clips.{listed_twice}
 use Rattle.fields.specs.Field.{fields_of}
 use Rattle.tourfile.specs.declared.Fault.{Fault}
-use Rattle.tourfile.specs.declared.TourAnswer.{TourAnswer}
+use Rattle.tourfile.specs.Answer.{TourAnswer}
 use Rattle.tourfile.specs.Answer.{gives, refuses, says_tour, refused, left_by}
 use Rattle.tourfile.specs.Reader.{start, weighed, read_of, rows_in, put_rows, read_into}
 use Rattle.tourfile.specs.Writer.{rows_from, records_of, file_of, records_weighed, written, write_of, write_into}
@@ -30,48 +31,48 @@ use Rattle.roundtrip.proofs.Again.{file_same, records_fine}
 -- ---- answers
 
 -- what says how many is done,
-pub says_done : (a : TourAnswer) (n : ℕ) → says_tour a ≡ gives n → a ≡ TourAnswer.Done n
-says_done (TourAnswer.Done m) n e = let z : m ≡ n = cc in ap TourAnswer.Done z
-says_done (TourAnswer.Refused x i) n e = let z : ◌≡◌ {A = ℕ} 0 1 = cc in absurd (omega arith)
+pub says_done : (a : TourAnswer) (n : ℕ) → says_tour a ≡ gives n → a ≡ Ok n
+says_done (Ok m) n e = let z : m ≡ n = cc in ap Ok z
+says_done (Err x) n e = let z : ◌≡◌ {A = ℕ} 0 1 = cc in absurd (omega arith)
 
 -- and what says a fault leaves the store
 says_left : (a : TourAnswer) (number at : ℕ) (done store : List ℕ) → says_tour a ≡ refuses number at → left_by a done store ≡ store
-says_left (TourAnswer.Done m) number at done store e = let z : ◌≡◌ {A = ℕ} 0 1 = cc in absurd (omega arith)
-says_left (TourAnswer.Refused x i) number at done store e = refl
+says_left (Ok m) number at done store e = let z : ◌≡◌ {A = ℕ} 0 1 = cc in absurd (omega arith)
+says_left (Err x) number at done store e = refl
 
 -- a writer that is done: nothing is listed twice, no record is at fault, there are at most 4,096, the output has room
 pub record Wrote (clips : List ℕ) (xs : List Row) (room n : ℕ) : Type 0 where
   pub once : listed_twice clips ≡ false
-  pub fine : records_weighed clips 0 0 xs ≡ TourAnswer.Done (length xs)
+  pub fine : records_weighed clips 0 0 xs ≡ Ok (length xs)
   pub few : length xs ≤ 4096
   pub size : n ≡ length (file_of clips xs)
   pub fits : n ≤ room
 
-done_wrote : (clips : List ℕ) (xs : List Row) (room n : ℕ) → write_of clips xs room ≡ TourAnswer.Done n → Wrote clips xs room n
+done_wrote : (clips : List ℕ) (xs : List Row) (room n : ℕ) → write_of clips xs room ≡ Ok n → Wrote clips xs room n
 unfolding write_of
 done_wrote clips xs room n e = go (listed_twice clips) refl (records_weighed clips 0 0 xs) refl e
   where
     fits : (m : ℕ) (t s : Bool) → ltb 4096 m ≡ t → ltb room (length (file_of clips xs)) ≡ s
-        → cond t (refused Fault.TooMany) (cond s (refused Fault.OutputTooShort) (TourAnswer.Done (length (file_of clips xs)))) ≡ TourAnswer.Done n
+        → cond t (refused Fault.TooMany) (cond s (refused Fault.OutputTooShort) (Ok (length (file_of clips xs)))) ≡ Ok n
         → (m ≤ 4096) × (n ≡ length (file_of clips xs)) × (n ≤ room)
     fits m true s g h e = absurd (not_done e)
     fits m false true g h e = absurd (not_done e)
     fits m false false g h e = let z : length (file_of clips xs) ≡ n = cc in let l = ltb-false room (length (file_of clips xs)) h in (ltb-false 4096 m g, sym z, omega arith)
 
-    go : (b : Bool) → listed_twice clips ≡ b → (a : TourAnswer) → records_weighed clips 0 0 xs ≡ a → cond b (refused Fault.ListedTwice) (written (length (file_of clips xs)) room a) ≡ TourAnswer.Done n → Wrote clips xs room n
+    go : (b : Bool) → listed_twice clips ≡ b → (a : TourAnswer) → records_weighed clips 0 0 xs ≡ a → cond b (refused Fault.ListedTwice) (written (length (file_of clips xs)) room a) ≡ Ok n → Wrote clips xs room n
     go true t a w e = absurd (not_done e)
-    go false t (TourAnswer.Done m) w e =
+    go false t (Ok m) w e =
         let c = done_count clips xs 0 0 m w in
         let k : m ≡ length xs = omega arith in
         let f = fits m (ltb 4096 m) (ltb room (length (file_of clips xs))) refl refl e in
-        record { once = t; fine = w ∙ ap TourAnswer.Done k; few = rw k at f.0; size = f.1; fits = f.2 }
-    go false t (TourAnswer.Refused x i) w e = absurd (not_done e)
+        record { once = t; fine = w ∙ ap Ok k; few = rw k at f.0; size = f.1; fits = f.2 }
+    go false t (Err x) w e = absurd (not_done e)
 
-wrote_done : (clips : List ℕ) (xs : List Row) (room n : ℕ) → Wrote clips xs room n → write_of clips xs room ≡ TourAnswer.Done n
+wrote_done : (clips : List ℕ) (xs : List Row) (room n : ℕ) → Wrote clips xs room n → write_of clips xs room ≡ Ok n
 unfolding write_of
 wrote_done clips xs room n w =
     let l : length (file_of clips xs) ≤ room = rw w.size at w.fits in
-    rw (w.once, w.fine, le-ltb 4096 (length xs) w.few, le-ltb room (length (file_of clips xs)) l) (ap TourAnswer.Done (sym w.size))
+    rw (w.once, w.fine, le-ltb 4096 (length xs) w.few, le-ltb room (length (file_of clips xs)) l) (ap Ok (sym w.size))
 
 -- ---- bytes
 
@@ -87,7 +88,7 @@ module _ (xs l : List ℕ) (h : length xs ≤ length l) where
   drop_front = rw at_front (drop-append_seam xs (drop (length xs) l))
 
 -- what is answered stands at the front of the output
-written_front : (clips : List ℕ) (xs : List Row) (out : List ℕ) (n : ℕ) → write_of clips xs (length out) ≡ TourAnswer.Done n → take n (write_into clips xs out) ≡ file_of clips xs
+written_front : (clips : List ℕ) (xs : List Row) (out : List ℕ) (n : ℕ) → write_of clips xs (length out) ≡ Ok n → take n (write_into clips xs out) ≡ file_of clips xs
 unfolding write_into
 written_front clips xs out n e =
     let w = done_wrote clips xs (length out) n e in
@@ -108,7 +109,7 @@ rows_puts (x ∷ xs) l i h =
     ap₂ ◌∷◌ (puts_before xs (put_row l i x) (i + 1) i (omega arith) ∙ row_same l i x (omega arith)) (rows_puts xs (put_row l i x) (i + 1) (omega arith))
 
 -- the records that are answered stand at the front of the list
-pub read_front : (clips file list : List ℕ) (n : ℕ) → read_of clips file (length list) ≡ TourAnswer.Done n → records_of (take (n * 5) (read_into clips file list)) ≡ rows_in clips (fields_of file)
+pub read_front : (clips file list : List ℕ) (n : ℕ) → read_of clips file (length list) ≡ Ok n → records_of (take (n * 5) (read_into clips file list)) ≡ rows_in clips (fields_of file)
 unfolding read_into
 read_front clips file list n e =
     let r = done_read clips file (length list) n e in
@@ -126,8 +127,8 @@ written_then_read clips ws out list n s h =
     let f = written_front clips (records_of ws) out n e in
     let c = records_length ws in
     let d = fields_written clips (records_of ws) in
-    let m : weighed clips start (fields_of (file_of clips (records_of ws))) ≡ TourAnswer.Done (length ws / 5) = rw d (read_back clips (records_of ws) w.fine w.few ∙ ap TourAnswer.Done c) in
-    let r : read_of clips (file_of clips (records_of ws)) (length list) ≡ TourAnswer.Done (length ws / 5) = read_done clips (file_of clips (records_of ws)) (length list) (length ws / 5) (record { once = w.once; fine = m; fits = h }) in
+    let m : weighed clips start (fields_of (file_of clips (records_of ws))) ≡ Ok (length ws / 5) = rw d (read_back clips (records_of ws) w.fine w.few ∙ ap Ok c) in
+    let r : read_of clips (file_of clips (records_of ws)) (length list) ≡ Ok (length ws / 5) = read_done clips (file_of clips (records_of ws)) (length list) (length ws / 5) (record { once = w.once; fine = m; fits = h }) in
     let x : rows_in clips (fields_of (file_of clips (records_of ws))) ≡ map plain (records_of ws) = rw d (rows_back clips (records_of ws) w.fine) in
     (rw f (ap says_tour r), rw f (read_front clips (file_of clips (records_of ws)) list (length ws / 5) r ∙ x))
 
@@ -139,7 +140,7 @@ read_then_written clips file list out n b s k h =
     let c = read_count clips file (length list) n e in
     let f = file_same clips file n b a.once a.fine k in
     let g = records_fine clips file n b a.once a.fine k in
-    let w : write_of clips (rows_in clips (fields_of file)) (length out) ≡ TourAnswer.Done (length file) = wrote_done clips (rows_in clips (fields_of file)) (length out) (length file) (record { once = a.once; fine = g.0 ∙ ap TourAnswer.Done (sym c); few = rw c g.1; size = ap length (sym f); fits = h }) in
+    let w : write_of clips (rows_in clips (fields_of file)) (length out) ≡ Ok (length file) = wrote_done clips (rows_in clips (fields_of file)) (length out) (length file) (record { once = a.once; fine = g.0 ∙ ap Ok (sym c); few = rw c g.1; size = ap length (sym f); fits = h }) in
     (rw r (ap says_tour w), rw r (written_front clips (rows_in clips (fields_of file)) out (length file) w ∙ f))
 
 -- ---- what is left

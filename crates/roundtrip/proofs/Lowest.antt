@@ -8,18 +8,18 @@ use native.Mathlib.Omega.{arith}
 use borrow.Author.Tests.{eq-eqb, lt-ltb, le-leb, leb-true}
 use lib.ListN.{length, drop, length-drop}
 use lib.Dec.{leb, ltb, eqb}
+use Rattle.std.specs.Prelude.{Ok, Err}
+use Rattle.std.proofs.Common.{Break, Continue}
 use Rattle.laws.specs.Order.{all, any}
 use Rattle.laws.specs.Queue.{Each}
 use Rattle.counts.proofs.Truth.{and_true, and_l, and_r, or_l, or_r, lt_or_le, never}
 use Rattle.fields.specs.Field.{piece_size, fields_of, is_more, tag_of}
 use Rattle.fields.proofs.Fields.{piece_some, front_length, fields_none, fields_front}
 use Rattle.tourfile.specs.declared.Fault.{Fault}
-use Rattle.tourfile.specs.declared.Judged.{Judged}
+use Rattle.tourfile.specs.Answer.{Judged}
 use Rattle.tourfile.specs.declared.Progress.{Progress}
-use Rattle.tourfile.specs.declared.TourAnswer.{TourAnswer}
-use Rattle.tourfile.specs.declared.Turn.{Turn}
 use Rattle.tourfile.specs.Answer.{fault_number, first}
-use Rattle.tourfile.specs.Reader.{start, judged_of, bytes_after, behind, settled, turn_of, or_else, weighed}
+use Rattle.tourfile.specs.Reader.{Turn, start, judged_of, bytes_after, behind, settled, turn_of, or_else, weighed}
 use Rattle.tourfile.proofs.Judging.{faulty_not_fine}
 use Rattle.tourfile.proofs.Passed.{fine_passed}
 use Rattle.tourfile.proofs.Turns.{behind_at}
@@ -29,7 +29,7 @@ use Rattle.roundtrip.specs.Least.{Found, found, Test, tests, faults_at, faults_i
 
 -- the first test that holds gives the fault
 first_of : List Test → Judged
-first_of [] = Judged.Fine
+first_of [] = (Ok tt)
 first_of (t ∷ ts) = first t.holds t.fault (first_of ts)
 
 judged_first : (clips : List ℕ) (p : Progress) (more : Bool) (f : List ℕ) → judged_of clips p more f ≡ first_of (tests clips p more f)
@@ -45,12 +45,12 @@ tests_rise : (clips : List ℕ) (p : Progress) (more : Bool) (f : List ℕ) → 
 tests_rise clips p more f = refl
 
 -- no fault, none found
-none_found : (at : ℕ) (ts : List Test) → first_of ts ≡ Judged.Fine → faults_at at ts ≡ []
+none_found : (at : ℕ) (ts : List Test) → first_of ts ≡ (Ok tt) → faults_at at ts ≡ []
 unfolding first_of first
 none_found at [] e = refl
 none_found at (t ∷ ts) e = go t.holds e (none_found at ts)
   where
-    go : (b : Bool) → first b t.fault (first_of ts) ≡ Judged.Fine → (first_of ts ≡ Judged.Fine → faults_at at ts ≡ []) → cond b (found at t.fault ∷ faults_at at ts) (faults_at at ts) ≡ []
+    go : (b : Bool) → first b t.fault (first_of ts) ≡ (Ok tt) → (first_of ts ≡ (Ok tt) → faults_at at ts ≡ []) → cond b (found at t.fault ∷ faults_at at ts) (faults_at at ts) ≡ []
     go true e ih = absurd (faulty_not_fine e)
     go false e ih = ih e
 
@@ -73,12 +73,12 @@ rest_after at x (t ∷ ts) e = go t.holds (rest_after at x ts (and_r (leb (fault
     go false ih = ih
 
 -- a field's own fault is the least of its faults
-own_least : (at : ℕ) (x : Fault) (ts : List Test) → rising ts ≡ true → first_of ts ≡ Judged.Faulty x → Least (found at x) (faults_at at ts)
+own_least : (at : ℕ) (x : Fault) (ts : List Test) → rising ts ≡ true → first_of ts ≡ Err x → Least (found at x) (faults_at at ts)
 unfolding first_of first
 own_least at x [] r e = absurd (faulty_not_fine (sym e))
 own_least at x (t ∷ ts) r e = go t.holds e (own_least at x ts (and_r (all (λ u. leb (fault_number t.fault) (fault_number u.fault)) ts) (rising ts) r))
   where
-    go : (b : Bool) → first b t.fault (first_of ts) ≡ Judged.Faulty x → (first_of ts ≡ Judged.Faulty x → Least (found at x) (faults_at at ts))
+    go : (b : Bool) → first b t.fault (first_of ts) ≡ Err x → (first_of ts ≡ Err x → Least (found at x) (faults_at at ts))
         → Least (found at x) (cond b (found at t.fault ∷ faults_at at ts) (faults_at at ts))
     go true e ih =
         let y : t.fault ≡ x = cc in
@@ -142,7 +142,7 @@ lowest clips (f ∷ fs) p s = go (judged_of clips p (is_more fs) f) refl (lowest
   where
     go : (j : Judged) → judged_of clips p (is_more fs) f ≡ j → Lowest (weighed clips (behind p f) fs) (faults_in clips (behind p f) false fs)
         → Lowest (or_else (settled j p f) (λ q. weighed clips q fs)) (faults_at p.at (tests clips p (is_more fs) f) ++ faults_in clips (behind p f) (eqb (tag_of f) 3) fs)
-    go (Judged.Faulty x) e ih =
+    go (Err x) e ih =
         let o = own_least p.at x (tests clips p (is_more fs) f) (tests_rise clips p (is_more fs) f) (sym (judged_first clips p (is_more fs) f) ∙ e) in
         let b = behind_at p f in
         let z = s.0 in
@@ -151,11 +151,11 @@ lowest clips (f ∷ fs) p s = go (judged_of clips p (is_more fs) f) refl (lowest
           least = all_append (not_after (found p.at x)) (faults_at p.at (tests clips p (is_more fs) f)) (faults_in clips (behind p f) (eqb (tag_of f) 3) fs) o.least
               (later clips (found p.at x) fs (behind p f) (eqb (tag_of f) 3) (omega arith));
         }
-    go Judged.Fine e ih =
+    go (Ok u) e ih =
         let n = none_found p.at (tests clips p (is_more fs) f) (sym (judged_first clips p (is_more fs) f) ∙ e) in
         rw n (pick (eqb (tag_of f) 3) refl)
       where
-        pick : (b : Bool) → eqb (tag_of f) 3 ≡ b → Lowest (or_else (cond b (Turn.Stop (TourAnswer.Done p.count)) (Turn.On (behind p f))) (λ q. weighed clips q fs)) (faults_in clips (behind p f) b fs)
+        pick : (b : Bool) → eqb (tag_of f) 3 ≡ b → Lowest (or_else (cond {A = Turn} b (Break (Ok p.count)) (Continue (behind p f))) (λ q. weighed clips q fs)) (faults_in clips (behind p f) b fs)
         pick true t = ended fs (rw t at (fine_passed clips p (is_more fs) f e).after)
           where
             ended : (gs : List (List ℕ)) → is_more gs ≡ false → faults_in clips (behind p f) true gs ≡ []

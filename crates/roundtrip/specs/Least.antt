@@ -1,10 +1,11 @@
 -- The reader's fault is the least of all, by the first byte of its field and then in the request's order. Definitions only.
 use Rattle.std.specs.Prelude.{ℕ, ◌≡◌, List, [], ◌∷◌, ◌++◌, Bool, true, false, ◌&&◌, ◌||◌, not, cond, leb, ltb, eqb}
+use Rattle.std.specs.Prelude.{Ok, Err}
 use Rattle.laws.specs.Order.{all, any}
 use Rattle.fields.specs.Field.{is_whole, fields_of, is_more, tag_of}
 use Rattle.tourfile.specs.declared.Fault.{Fault}
 use Rattle.tourfile.specs.declared.Progress.{Progress}
-use Rattle.tourfile.specs.declared.TourAnswer.{TourAnswer}
+use Rattle.tourfile.specs.Answer.{TourAnswer}
 use Rattle.tourfile.specs.Answer.{fault_number}
 use Rattle.tourfile.specs.Reader.{start, wrong_first, unknown_tag, wrong_length, other_version, unknown_kind, not_listed, not_rising, too_many, wrong_count, bytes_after, behind, weighed}
 
@@ -63,8 +64,8 @@ pub record Least (x : Found) (l : List Found) : Type 0 where
   pub least : all (not_after x) l ≡ true
 
 abbrev pub Lowest : TourAnswer → List Found → Type 0
-Lowest (TourAnswer.Done n) l = l ≡ []
-Lowest (TourAnswer.Refused x at) l = Least (found at x) l
+Lowest (Ok n) l = l ≡ []
+Lowest (Err e) l = Least (found e.place e.fault) l
 
 abbrev pub ByLowest : Type 0
 ByLowest = (clips file : List ℕ) → Lowest (weighed clips start (fields_of file)) (faults_in clips start false (fields_of file))

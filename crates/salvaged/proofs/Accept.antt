@@ -7,15 +7,14 @@ use native.Mathlib.Omega.{arith}
 use borrow.Author.Tests.{ne_eqb, lt-leb, leb-false}
 use lib.ListN.{length}
 use lib.Dec.{leb, eqb}
+use Rattle.std.specs.Prelude.{Ok}
 use Rattle.counts.specs.Below.{all_below}
 use Rattle.counts.proofs.Below.{all_at}
 use Rattle.counts.proofs.Truth.{and_l, and_r, and_false_l, and_false_r, never, not_true}
 use Rattle.timeline.specs.declared.Row.{Row}
 use Rattle.fields.specs.Clips.{is_listed}
 use Rattle.fields.specs.Field.{is_whole, fields_of, is_more, tag_of, number_in, kind_in, clip_in, has_clip}
-use Rattle.tourfile.specs.declared.Judged.{Judged}
 use Rattle.tourfile.specs.declared.Progress.{Progress}
-use Rattle.tourfile.specs.declared.TourAnswer.{TourAnswer}
 use Rattle.tourfile.specs.Answer.{says_tour}
 use Rattle.tourfile.specs.Reader.{start, wrong_first, unknown_tag, wrong_length, other_version, unknown_kind, not_listed, not_rising, too_many, wrong_count, bytes_after, judged_of, behind, settled, turn_of, weighed, row_in, rows_in}
 use Rattle.tourfile.specs.Writer.{last_bytes}
@@ -87,7 +86,7 @@ module _ (clips : List ℕ) (g : all_below 32 (is_listed clips) ≡ true) (p : P
   unfolding bytes_after
   f_after = rw tag refl
 
-  fine_kept : Judged.Fine ≡ judged_of clips p more f
+  fine_kept : (Ok tt) ≡ judged_of clips p more f
   unfolding judged_of
   fine_kept =
       skip _ _ _ _ (ap not (kept_whole p f k)) (skip _ _ _ _ f_first (skip _ _ _ _ f_tag (skip _ _ _ _ f_length (skip _ _ _ _ f_version (skip _ _ _ _ f_known
@@ -101,7 +100,7 @@ command_behind p f t = rw t refl
 
 module _ (clips : List ℕ) where
   weighed_kept : (fs : List (List ℕ)) (p : Progress) (n : ℕ) → all_below 32 (is_listed clips) ≡ true → 0 < p.at → p.count + length fs ≡ n → n ≤ 4096 → Kept p.count p.last fs
-      → weighed clips p (fs ++ (last_bytes n ∷ [])) ≡ TourAnswer.Done n
+      → weighed clips p (fs ++ (last_bytes n ∷ [])) ≡ Ok n
   unfolding weighed turn_of settled
   weighed_kept [] p n g h e m k = let c : n ≡ p.count = omega arith in rw (c, fine_last clips p h) refl
   weighed_kept (f ∷ fs) p n g h e m k =
@@ -112,7 +111,7 @@ module _ (clips : List ℕ) where
 
   -- it is accepted, with as many records as fields are kept,
   pub weighed_fresh : (file : List ℕ) → all_below 32 (is_listed clips) ≡ true → length (kept_fields file (ranges_of file)) ≤ 4096
-      → weighed clips start (fields_of (fresh file)) ≡ TourAnswer.Done (length (kept_fields file (ranges_of file)))
+      → weighed clips start (fields_of (fresh file)) ≡ Ok (length (kept_fields file (ranges_of file)))
   unfolding weighed turn_of settled behind
   weighed_fresh file g m =
       let ks : List (List ℕ) = kept_fields file (ranges_of file) in
@@ -133,6 +132,6 @@ module _ (clips : List ℕ) where
 pub salvaged_then_read : SalvagedThenRead
 salvaged_then_read clips file out list records k b r s g u h =
     let d = says_salvage_law file (length out) (length list) k b r s in
-    let w : weighed clips start (fields_of (fresh file)) ≡ TourAnswer.Done k = weighed_fresh clips file g d.few ∙ ap TourAnswer.Done (sym d.kept) in
+    let w : weighed clips start (fields_of (fresh file)) ≡ Ok k = weighed_fresh clips file g d.few ∙ ap Ok (sym d.kept) in
     let e = read_done clips (fresh file) (length records) k (record { once = u; fine = w; fits = h }) in
     rw (fresh_front file out (length list) k b r s) (ap says_tour e, read_front clips (fresh file) records k e ∙ rows_fresh clips file)

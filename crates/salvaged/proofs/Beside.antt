@@ -8,12 +8,12 @@ use native.Mathlib.Omega.{arith}
 use borrow.Author.Tests.{eqb-true, eqb-false, ne_eqb, leb-false}
 use lib.ListN.{length, drop, length-drop}
 use lib.Dec.{leb, eqb}
+use Rattle.std.specs.Prelude.{Ok}
 use Rattle.laws.specs.Order.{any}
 use Rattle.counts.proofs.Truth.{two_ways}
 use Rattle.fields.specs.Field.{fields_of, tag_of}
 use Rattle.fields.proofs.Fields.{fields_none}
 use Rattle.tourfile.specs.declared.Progress.{Progress}
-use Rattle.tourfile.specs.declared.TourAnswer.{TourAnswer}
 use Rattle.tourfile.specs.Reader.{start, too_many, behind, weighed, read_of, row_in, rows_in}
 use Rattle.tourfile.proofs.Passed.{Passed}
 use Rattle.tourfile.proofs.Turns.{records_count}
@@ -103,7 +103,7 @@ rows_commands clips (f ∷ fs) = go (eqb (tag_of f) 2) (rows_commands clips fs)
     go true e = ap suc e
     go false e = e
 
-module _ (clips file : List ℕ) (n : ℕ) (e : weighed clips start (fields_of file) ≡ TourAnswer.Done n) where
+module _ (clips file : List ℕ) (n : ℕ) (e : weighed clips start (fields_of file) ≡ Ok n) where
   whole_file : Whole file start
   whole_file = field_by_field clips file n (Whole file) (λ p h c. whole_none file p h) (λ p more h q ih. whole_some file clips p more h q ih) start e
 

@@ -8,13 +8,15 @@ use borrow.Author.Tests.{le-leb, lt-leb, leb-true, lt-ltb, le-ltb}
 use lib.Dec.{leb}
 use lib.ListN.{length}
 use lib.Seq.{sets}
+use Rattle.std.specs.Prelude.{Ok, Err}
+use Rattle.tourfile.specs.declared.TourError.{TourError}
 use Rattle.timeline.specs.declared.Row.{Row}
 use Rattle.timeline.specs.Store.{put_row}
 use Rattle.timeline.proofs.Rows.{length_put}
 use Rattle.fields.specs.Clips.{listed_twice}
 use Rattle.fields.specs.Field.{fields_of}
 use Rattle.tourfile.specs.declared.Fault.{Fault}
-use Rattle.tourfile.specs.declared.TourAnswer.{TourAnswer}
+use Rattle.tourfile.specs.Answer.{TourAnswer}
 use Rattle.tourfile.specs.Answer.{refused}
 use Rattle.tourfile.specs.Reader.{start, weighed, fitted, read_of, rows_in, put_rows, read_into}
 use Rattle.tourfile.specs.Writer.{records_of, file_of, records_weighed, write_of, write_into}
@@ -31,23 +33,23 @@ module _ (clips file list : List ℕ) where
   read_twice t = (rw t refl, rw t refl)
 
   module _ (t : listed_twice clips ≡ false) where
-    pub read_fine : (n : ℕ) → weighed clips start (fields_of file) ≡ TourAnswer.Done n → n ≤ length list / 5
-        → (TourAnswer.Done n ≡ read_of clips file (length list)) × (put_rows list 0 (rows_in clips (fields_of file)) ≡ read_into clips file list)
+    pub read_fine : (n : ℕ) → weighed clips start (fields_of file) ≡ Ok n → n ≤ length list / 5
+        → (Ok n ≡ read_of clips file (length list)) × (put_rows list 0 (rows_in clips (fields_of file)) ≡ read_into clips file list)
     unfolding read_of read_into
     read_fine n w h = (rw (t, w, le-leb _ _ h) refl, rw (t, w, le-leb _ _ h) refl)
 
-    pub read_short : (n : ℕ) → weighed clips start (fields_of file) ≡ TourAnswer.Done n → length list / 5 < n
+    pub read_short : (n : ℕ) → weighed clips start (fields_of file) ≡ Ok n → length list / 5 < n
         → (refused Fault.ListTooShort ≡ read_of clips file (length list)) × (list ≡ read_into clips file list)
     unfolding read_of read_into
     read_short n w h = (rw (t, w, lt-leb _ _ h) refl, rw (t, w, lt-leb _ _ h) refl)
 
-    pub read_faulty : (x : Fault) (at : ℕ) → weighed clips start (fields_of file) ≡ TourAnswer.Refused x at
-        → (TourAnswer.Refused x at ≡ read_of clips file (length list)) × (list ≡ read_into clips file list)
+    pub read_faulty : (x : TourError) → weighed clips start (fields_of file) ≡ Err x
+        → (Err x ≡ read_of clips file (length list)) × (list ≡ read_into clips file list)
     unfolding read_of read_into
-    read_faulty x at w = (rw (t, w) refl, rw (t, w) refl)
+    read_faulty x w = (rw (t, w) refl, rw (t, w) refl)
 
 -- the records of an accepted file fit a list that has room for as many as the answer says
-pub read_room : (clips file : List ℕ) (n room : ℕ) → weighed clips start (fields_of file) ≡ TourAnswer.Done n → n ≤ room / 5
+pub read_room : (clips file : List ℕ) (n room : ℕ) → weighed clips start (fields_of file) ≡ Ok n → n ≤ room / 5
     → length (rows_in clips (fields_of file)) * 5 ≤ room
 read_room clips file n room w h = let e = records_count clips (fields_of file) start n w in omega arith
 
@@ -58,37 +60,37 @@ module _ (clips file : List ℕ) (room : ℕ) where
   weighs_twice t = rw t refl
 
   module _ (t : listed_twice clips ≡ false) where
-    pub weighs_short : (n : ℕ) → weighed clips start (fields_of file) ≡ TourAnswer.Done n → room / 5 < n → refused Fault.ListTooShort ≡ read_of clips file room
+    pub weighs_short : (n : ℕ) → weighed clips start (fields_of file) ≡ Ok n → room / 5 < n → refused Fault.ListTooShort ≡ read_of clips file room
     unfolding read_of
     weighs_short n w h = rw (t, w, lt-leb _ _ h) refl
 
-    pub weighs_faulty : (x : Fault) (at : ℕ) → weighed clips start (fields_of file) ≡ TourAnswer.Refused x at → TourAnswer.Refused x at ≡ read_of clips file room
+    pub weighs_faulty : (x : TourError) → weighed clips start (fields_of file) ≡ Err x → Err x ≡ read_of clips file room
     unfolding read_of
-    weighs_faulty x at w = rw (t, w) refl
+    weighs_faulty x w = rw (t, w) refl
 
 -- a reader that is done: nothing is listed twice, no field is faulty, the list has room
 pub record Read (clips file : List ℕ) (room n : ℕ) : Type 0 where
   pub once : listed_twice clips ≡ false
-  pub fine : weighed clips start (fields_of file) ≡ TourAnswer.Done n
+  pub fine : weighed clips start (fields_of file) ≡ Ok n
   pub fits : n ≤ room / 5
 
-pub read_done : (clips file : List ℕ) (room n : ℕ) → Read clips file room n → read_of clips file room ≡ TourAnswer.Done n
+pub read_done : (clips file : List ℕ) (room n : ℕ) → Read clips file room n → read_of clips file room ≡ Ok n
 unfolding read_of
 read_done clips file room n r = rw (r.once, r.fine, le-leb n (room / 5) r.fits) refl
 
-module _ (clips file : List ℕ) (room n : ℕ) (e : read_of clips file room ≡ TourAnswer.Done n) where
+module _ (clips file : List ℕ) (room n : ℕ) (e : read_of clips file room ≡ Ok n) where
   pub done_read : Read clips file room n
   unfolding read_of
   done_read = go (listed_twice clips) refl (weighed clips start (fields_of file)) refl e
     where
-      fits : (m : ℕ) (t : Bool) → leb m (room / 5) ≡ t → cond t (TourAnswer.Done m) (refused Fault.ListTooShort) ≡ TourAnswer.Done n → (m ≡ n) × (n ≤ room / 5)
+      fits : (m : ℕ) (t : Bool) → leb m (room / 5) ≡ t → cond t (Ok m) (refused Fault.ListTooShort) ≡ Ok n → (m ≡ n) × (n ≤ room / 5)
       fits m true g e = let z : m ≡ n = cc in let l = leb-true m (room / 5) g in (z, omega arith)
       fits m false g e = absurd (not_done e)
 
-      go : (b : Bool) → listed_twice clips ≡ b → (a : TourAnswer) → weighed clips start (fields_of file) ≡ a → cond b (refused Fault.ListedTwice) (fitted room a) ≡ TourAnswer.Done n → Read clips file room n
+      go : (b : Bool) → listed_twice clips ≡ b → (a : TourAnswer) → weighed clips start (fields_of file) ≡ a → cond b (refused Fault.ListedTwice) (fitted room a) ≡ Ok n → Read clips file room n
       go true t a w e = absurd (not_done e)
-      go false t (TourAnswer.Done m) w e = let f = fits m (leb m (room / 5)) refl e in record { once = t; fine = w ∙ ap TourAnswer.Done f.0; fits = f.1 }
-      go false t (TourAnswer.Refused x i) w e = absurd (not_done e)
+      go false t (Ok m) w e = let f = fits m (leb m (room / 5)) refl e in record { once = t; fine = w ∙ ap Ok f.0; fits = f.1 }
+      go false t (Err x) w e = absurd (not_done e)
 
   -- its records are as many as it says,
   pub read_count : length (rows_in clips (fields_of file)) ≡ n
@@ -106,14 +108,14 @@ length_puts (x ∷ xs) l i = length_puts xs (put_row l i x) (i + 1) ∙ length_p
 
 -- what it leaves: its records at the list's front,
 module _ (clips file list : List ℕ) where
-  pub read_filled : (n : ℕ) → read_of clips file (length list) ≡ TourAnswer.Done n → put_rows list 0 (rows_in clips (fields_of file)) ≡ read_into clips file list
+  pub read_filled : (n : ℕ) → read_of clips file (length list) ≡ Ok n → put_rows list 0 (rows_in clips (fields_of file)) ≡ read_into clips file list
   unfolding read_into
   read_filled n e = rw e refl
 
   -- or the list as it was
-  pub read_left : (x : Fault) (at : ℕ) → read_of clips file (length list) ≡ TourAnswer.Refused x at → list ≡ read_into clips file list
+  pub read_left : (x : TourError) → read_of clips file (length list) ≡ Err x → list ≡ read_into clips file list
   unfolding read_into
-  read_left x at e = rw e refl
+  read_left x e = rw e refl
 
 -- ---- the writer
 
@@ -124,12 +126,12 @@ module _ (clips ws out : List ℕ) where
   write_twice t = (rw t refl, rw t refl)
 
   module _ (t : listed_twice clips ≡ false) where
-    pub write_faulty : (x : Fault) (i : ℕ) → records_weighed clips 0 0 (records_of ws) ≡ TourAnswer.Refused x i
-        → (TourAnswer.Refused x i ≡ write_of clips (records_of ws) (length out)) × (out ≡ write_into clips (records_of ws) out)
+    pub write_faulty : (x : TourError) → records_weighed clips 0 0 (records_of ws) ≡ Err x
+        → (Err x ≡ write_of clips (records_of ws) (length out)) × (out ≡ write_into clips (records_of ws) out)
     unfolding write_of write_into
-    write_faulty x i w = (rw (t, w) refl, rw (t, w) refl)
+    write_faulty x w = (rw (t, w) refl, rw (t, w) refl)
 
-    module _ (n : ℕ) (w : records_weighed clips 0 0 (records_of ws) ≡ TourAnswer.Done n) where
+    module _ (n : ℕ) (w : records_weighed clips 0 0 (records_of ws) ≡ Ok n) where
       pub write_many : 4096 < n → (refused Fault.TooMany ≡ write_of clips (records_of ws) (length out)) × (out ≡ write_into clips (records_of ws) out)
       unfolding write_of write_into
       write_many h = let e = lt-ltb 4096 n h in (rw (t, w, e) refl, rw (t, w, e) refl)
@@ -147,9 +149,9 @@ module _ (clips ws out : List ℕ) where
             (rw (t, w, e, g) refl, rw (t, w, e, g) refl)
 
         pub write_fine : size ≤ length out
-            → (TourAnswer.Done size ≡ write_of clips (records_of ws) (length out)) × (sets out 0 (file_of clips (records_of ws)) ≡ write_into clips (records_of ws) out)
+            → (Ok size ≡ write_of clips (records_of ws) (length out)) × (sets out 0 (file_of clips (records_of ws)) ≡ write_into clips (records_of ws) out)
         unfolding write_of write_into
         write_fine h =
             let e = le-ltb 4096 n f in
             let g = le-ltb (length out) (length (file_of clips (records_of ws))) (rw all_told at h) in
-            (rw (t, w, e, g) (ap TourAnswer.Done all_told), rw (t, w, e, g) refl)
+            (rw (t, w, e, g) (ap Ok all_told), rw (t, w, e, g) refl)

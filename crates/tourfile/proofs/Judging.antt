@@ -3,13 +3,15 @@ use mathlib.Core.Path.{◌≡◌, refl}
 use mathlib.Core.Bool.{Bool, true, false}
 use Prim.Native.Nat.{ℕ}
 use native.Mathlib.Omega.{arith}
+use Rattle.std.specs.Prelude.{Ok, Err}
+use Rattle.tourfile.specs.declared.TourError.{TourError}
 use Rattle.tourfile.specs.declared.Fault.{Fault}
-use Rattle.tourfile.specs.declared.Judged.{Judged}
-use Rattle.tourfile.specs.declared.TourAnswer.{TourAnswer}
+use Rattle.tourfile.specs.Answer.{Judged}
+use Rattle.tourfile.specs.Answer.{TourAnswer}
 use Rattle.tourfile.specs.Answer.{first}
 
 -- a test that holds gives its fault,
-pub stop : (t : Bool) (x : Fault) (rest : Judged) → t ≡ true → Judged.Faulty x ≡ first t x rest
+pub stop : (t : Bool) (x : Fault) (rest : Judged) → t ≡ true → Err x ≡ first t x rest
 unfolding first
 stop t x rest e = rw e
 
@@ -18,15 +20,15 @@ pub skip : (t : Bool) (x : Fault) (rest r : Judged) → t ≡ false → r ≡ re
 unfolding first
 skip t x rest r e h = rw e h
 
-pub faulty_not_fine : {x : Fault} → Judged.Faulty x ≡ Judged.Fine → ⊥
+pub faulty_not_fine : {x : Fault} → ◌≡◌ {A = Judged} (Err x) (Ok tt) → ⊥
 faulty_not_fine e = let z : ◌≡◌ {A = ℕ} 0 1 = cc in absurd (omega arith)
 
 -- what has no fault has passed each test
-pub passed : (t : Bool) (x : Fault) (rest : Judged) → first t x rest ≡ Judged.Fine → (t ≡ false) × (rest ≡ Judged.Fine)
+pub passed : (t : Bool) (x : Fault) (rest : Judged) → first t x rest ≡ (Ok tt) → (t ≡ false) × (rest ≡ (Ok tt))
 unfolding first
 passed true x rest e = absurd (faulty_not_fine e)
 passed false x rest e = (refl, e)
 
 -- a refused call is not done
-pub not_done : {x : Fault} {i n : ℕ} → TourAnswer.Refused x i ≡ TourAnswer.Done n → ⊥
+pub not_done : {x : TourError} {n : ℕ} → ◌≡◌ {A = TourAnswer} (Err x) (Ok n) → ⊥
 not_done e = let z : ◌≡◌ {A = ℕ} 0 1 = cc in absurd (omega arith)

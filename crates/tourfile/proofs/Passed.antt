@@ -3,8 +3,8 @@ use mathlib.Core.Path.{◌≡◌}
 use mathlib.Core.Bool.{Bool, false, not}
 use mathlib.Core.List.{List}
 use Prim.Native.Nat.{ℕ}
+use Rattle.std.specs.Prelude.{Ok}
 use Rattle.fields.specs.Field.{is_whole}
-use Rattle.tourfile.specs.declared.Judged.{Judged}
 use Rattle.tourfile.specs.declared.Progress.{Progress}
 use Rattle.tourfile.specs.Reader.{wrong_first, unknown_tag, wrong_length, other_version, unknown_kind, not_listed, not_rising, too_many, wrong_count, bytes_after, judged_of}
 use Rattle.tourfile.proofs.Judging.{passed}
@@ -23,7 +23,7 @@ pub record Passed (clips : List ℕ) (p : Progress) (more : Bool) (f : List ℕ)
   pub count : wrong_count p f ≡ false
   pub after : bytes_after more f ≡ false
 
-pub fine_passed : (clips : List ℕ) (p : Progress) (more : Bool) (f : List ℕ) → judged_of clips p more f ≡ Judged.Fine → Passed clips p more f
+pub fine_passed : (clips : List ℕ) (p : Progress) (more : Bool) (f : List ℕ) → judged_of clips p more f ≡ (Ok tt) → Passed clips p more f
 unfolding judged_of
 fine_passed clips p more f e =
     let s1 = passed _ _ _ e in

@@ -8,12 +8,13 @@ use borrow.Author.Tests.{eqb-true, ne_eqb}
 use lib.ListN.{length, take, drop, length-drop}
 use lib.Seq.{drop-drop}
 use lib.Dec.{ltb, eqb}
-use Rattle.tourfile.specs.declared.Judged.{Judged}
+use Rattle.std.specs.Prelude.{Ok, Err}
+use Rattle.std.proofs.Common.{Break, Continue}
+use Rattle.tourfile.specs.Answer.{Judged}
 use Rattle.tourfile.specs.declared.Progress.{Progress}
-use Rattle.tourfile.specs.declared.TourAnswer.{TourAnswer}
-use Rattle.tourfile.specs.declared.Turn.{Turn}
+use Rattle.tourfile.specs.Answer.{TourAnswer}
 use Rattle.fields.specs.Field.{piece_size, fields_of, is_more, tag_of, number_in}
-use Rattle.tourfile.specs.Reader.{judged_of, bytes_after, behind, settled, turn_of, or_else, weighed, row_in, rows_in}
+use Rattle.tourfile.specs.Reader.{Turn, judged_of, bytes_after, behind, settled, turn_of, or_else, weighed, row_in, rows_in}
 use Rattle.tourfile.specs.Steps.{front_turn}
 use Rattle.tourfile.proofs.Passed.{fine_passed}
 use Rattle.fields.proofs.Fields.{piece_within, piece_some, front_length, fields_front, more_behind, is_piece, n_part, n_behind, part_whole}
@@ -35,15 +36,15 @@ behind_count p f = go (eqb (tag_of f) 2)
     go false = omega arith
 
 -- a turn on leads behind the field
-pub on_behind : (clips : List ℕ) (p : Progress) (more : Bool) (f : List ℕ) (q : Progress) → turn_of clips p more f ≡ Turn.On q → q ≡ behind p f
+pub on_behind : (clips : List ℕ) (p : Progress) (more : Bool) (f : List ℕ) (q : Progress) → turn_of clips p more f ≡ Continue q → q ≡ behind p f
 unfolding turn_of settled
 on_behind clips p more f q e = go (judged_of clips p more f) e
   where
-    go : (j : Judged) → settled j p f ≡ Turn.On q → q ≡ behind p f
-    go (Judged.Faulty x) e = let z : ◌≡◌ {A = ℕ} 0 1 = cc in absurd (omega arith)
-    go Judged.Fine e = pick (eqb (tag_of f) 3) e
+    go : (j : Judged) → settled j p f ≡ Continue q → q ≡ behind p f
+    go (Err x) e = let z : ◌≡◌ {A = ℕ} 0 1 = cc in absurd (omega arith)
+    go (Ok u) e = pick (eqb (tag_of f) 3) e
       where
-        pick : (b : Bool) → cond b (Turn.Stop (TourAnswer.Done p.count)) (Turn.On (behind p f)) ≡ Turn.On q → q ≡ behind p f
+        pick : (b : Bool) → cond {A = Turn} b (Break (Ok p.count)) (Continue (behind p f)) ≡ Continue q → q ≡ behind p f
         pick true e = let z : ◌≡◌ {A = ℕ} 0 1 = cc in absurd (omega arith)
         pick false e = cc
 
@@ -58,10 +59,10 @@ module _ (clips file : List ℕ) (p : Progress) (h : p.at < length file) where
   some_left = simp length-drop (omega arith)
 
   -- a turn that stops gives the answer
-  pub stops : (a : TourAnswer) → front_turn clips p (drop p.at file) ≡ Turn.Stop a → a ≡ weighed clips p (fields_of (drop p.at file))
+  pub stops : (a : TourAnswer) → front_turn clips p (drop p.at file) ≡ Break a → a ≡ weighed clips p (fields_of (drop p.at file))
   stops a e = sym (weighed_front clips p (drop p.at file) some_left ∙ rw e refl)
 
-  module _ (q : Progress) (e : front_turn clips p (drop p.at file) ≡ Turn.On q) where
+  module _ (q : Progress) (e : front_turn clips p (drop p.at file) ≡ Continue q) where
     led : q ≡ behind p (take (piece_size (drop p.at file)) (drop p.at file))
     unfolding front_turn
     led = on_behind clips p (ltb (piece_size (drop p.at file)) (length (drop p.at file))) (take (piece_size (drop p.at file)) (drop p.at file)) q e
@@ -96,7 +97,7 @@ unfolding front_turn
 front_is clips file p n h e = rw (part_whole p.at file, ← is_piece file p.at n h e) refl
 
 -- an accepted file has as many records as the answer says
-pub records_count : (clips : List ℕ) (fs : List (List ℕ)) (p : Progress) (n : ℕ) → weighed clips p fs ≡ TourAnswer.Done n → p.count + length (rows_in clips fs) ≡ n
+pub records_count : (clips : List ℕ) (fs : List (List ℕ)) (p : Progress) (n : ℕ) → weighed clips p fs ≡ Ok n → p.count + length (rows_in clips fs) ≡ n
 unfolding weighed rows_in turn_of settled bytes_after behind
 records_count clips [] p n e = let z : ◌≡◌ {A = ℕ} 0 1 = cc in absurd (omega arith)
 records_count clips (f ∷ fs) p n e = go (λ q g. records_count clips fs q n g) (judged_of clips p (is_more fs) f) refl e
@@ -112,14 +113,14 @@ records_count clips (f ∷ fs) p n e = go (λ q g. records_count clips fs q n g)
     none [] g = refl
     none (h ∷ hs) g = let x : ◌≡◌ {A = ℕ} 0 1 = cc in absurd (omega arith)
 
-    later : ((q : Progress) → weighed clips q fs ≡ TourAnswer.Done n → q.count + length (rows_in clips fs) ≡ n) → (b : Bool) → eqb (tag_of f) 2 ≡ b
-        → weighed clips (cond b (record { at = p.at + length f; count = p.count + 1; last = number_in f }) (record { at = p.at + length f; count = p.count; last = p.last })) fs ≡ TourAnswer.Done n
+    later : ((q : Progress) → weighed clips q fs ≡ Ok n → q.count + length (rows_in clips fs) ≡ n) → (b : Bool) → eqb (tag_of f) 2 ≡ b
+        → weighed clips (cond b (record { at = p.at + length f; count = p.count + 1; last = number_in f }) (record { at = p.at + length f; count = p.count; last = p.last })) fs ≡ Ok n
         → p.count + length (cond b (row_in clips f ∷ rows_in clips fs) (rows_in clips fs)) ≡ n
     later ih true g e = let i = ih (record { at = p.at + length f; count = p.count + 1; last = number_in f }) e in omega arith
     later ih false g e = ih (record { at = p.at + length f; count = p.count; last = p.last }) e
 
-    pick : ((q : Progress) → weighed clips q fs ≡ TourAnswer.Done n → q.count + length (rows_in clips fs) ≡ n) → (b : Bool) → eqb (tag_of f) 3 ≡ b → judged_of clips p (is_more fs) f ≡ Judged.Fine
-        → or_else (cond b (Turn.Stop (TourAnswer.Done p.count)) (Turn.On (behind p f))) (λ q. weighed clips q fs) ≡ TourAnswer.Done n
+    pick : ((q : Progress) → weighed clips q fs ≡ Ok n → q.count + length (rows_in clips fs) ≡ n) → (b : Bool) → eqb (tag_of f) 3 ≡ b → judged_of clips p (is_more fs) f ≡ (Ok tt)
+        → or_else (cond {A = Turn} b (Break (Ok p.count)) (Continue (behind p f))) (λ q. weighed clips q fs) ≡ Ok n
         → p.count + length (cond (eqb (tag_of f) 2) (row_in clips f ∷ rows_in clips fs) (rows_in clips fs)) ≡ n
     pick ih true g j e =
         let t : tag_of f ≡ 3 = eqb-true (tag_of f) 3 g in
@@ -129,10 +130,10 @@ records_count clips (f ∷ fs) p n e = go (λ q g. records_count clips fs q n g)
         rw t (omega arith)
     pick ih false g j e = later ih (eqb (tag_of f) 2) refl e
 
-    go : ((q : Progress) → weighed clips q fs ≡ TourAnswer.Done n → q.count + length (rows_in clips fs) ≡ n) → (j : Judged) → judged_of clips p (is_more fs) f ≡ j → or_else (settled j p f) (λ q. weighed clips q fs) ≡ TourAnswer.Done n
+    go : ((q : Progress) → weighed clips q fs ≡ Ok n → q.count + length (rows_in clips fs) ≡ n) → (j : Judged) → judged_of clips p (is_more fs) f ≡ j → or_else (settled j p f) (λ q. weighed clips q fs) ≡ Ok n
         → p.count + length (cond (eqb (tag_of f) 2) (row_in clips f ∷ rows_in clips fs) (rows_in clips fs)) ≡ n
-    go ih (Judged.Faulty x) j e = let z : ◌≡◌ {A = ℕ} 0 1 = cc in absurd (omega arith)
-    go ih Judged.Fine j e = pick ih (eqb (tag_of f) 3) refl j e
+    go ih (Err x) j e = let z : ◌≡◌ {A = ℕ} 0 1 = cc in absurd (omega arith)
+    go ih (Ok u) j e = pick ih (eqb (tag_of f) 3) refl j e
 
 -- the records from a place on: the command's that stands there, then the later ones'
 module _ (clips file : List ℕ) (at n : ℕ) (h : at < length file) (e : n ≡ piece_size (take (length file - at) (drop at file))) where

@@ -9,6 +9,7 @@ use borrow.Author.Tests.{eqb-true, ltb-true}
 use lib.ListN.{length, take, length-append}
 use lib.Seq.{sets, length-take-le}
 use lib.Dec.{ltb, eqb}
+use Rattle.std.specs.Prelude.{Ok, Err}
 use Rattle.counts.specs.Below.{within}
 use Rattle.counts.proofs.Below.{within_high}
 use Rattle.counts.proofs.Truth.{and_l, and_r, lt_or_le, cond_both}
@@ -23,8 +24,8 @@ use Rattle.fields.specs.Steps.{Fits}
 use Rattle.fields.proofs.Writes.{two_writes}
 use Rattle.fields.proofs.Parts.{length_part}
 use Rattle.tourfile.specs.declared.Fault.{Fault}
-use Rattle.tourfile.specs.declared.Judged.{Judged}
-use Rattle.tourfile.specs.declared.TourAnswer.{TourAnswer}
+use Rattle.tourfile.specs.Answer.{Judged}
+use Rattle.tourfile.specs.Answer.{error_at}
 use Rattle.tourfile.specs.Writer.{head_bytes, command_bytes, version_bytes, last_bytes, tail_bytes, file_of, unlisted, late, record_judged_of, or_next, records_weighed, rows_from, records_of}
 use Rattle.tourfile.specs.Steps.{size_of}
 use Rattle.tourfile.proofs.Judging.{passed, not_done}
@@ -60,13 +61,13 @@ records_take ws n h =
 
 module _ (clips ws : List ℕ) (i n before : ℕ) (h : i < n) where
   -- one at fault gives the answer,
-  pub lined_stop : (x : Fault) → record_judged_of clips i before (row_at ws i) ≡ Judged.Faulty x
-      → TourAnswer.Refused x i ≡ records_weighed clips i before (rows_from ws i (n - i))
+  pub lined_stop : (x : Fault) → record_judged_of clips i before (row_at ws i) ≡ Err x
+      → Err (error_at x i) ≡ records_weighed clips i before (rows_from ws i (n - i))
   unfolding records_weighed
   lined_stop x e = rw (rows_next ws i n h, e) refl
 
   -- any other leaves it to the later ones
-  pub lined_on : record_judged_of clips i before (row_at ws i) ≡ Judged.Fine
+  pub lined_on : record_judged_of clips i before (row_at ws i) ≡ (Ok tt)
       → records_weighed clips i before (rows_from ws i (n - i)) ≡ records_weighed clips (i + 1) (row_at ws i).number (rows_from ws (i + 1) (n - (i + 1)))
   unfolding records_weighed
   lined_on e = rw (rows_next ws i n h, e) refl
@@ -81,7 +82,7 @@ not_fails : (b : Bool) → not b ≡ false → b ≡ true
 not_fails true e = refl
 not_fails false e = sym e
 
-pub fine_record : (clips : List ℕ) (i before : ℕ) (x : Row) → record_judged_of clips i before x ≡ Judged.Fine → FineRecord clips i before x
+pub fine_record : (clips : List ℕ) (i before : ℕ) (x : Row) → record_judged_of clips i before x ≡ (Ok tt) → FineRecord clips i before x
 unfolding record_judged_of
 fine_record clips i before x e =
     let a = passed _ _ _ e in
@@ -90,26 +91,26 @@ fine_record clips i before x e =
     record { reads = not_fails (readable x) a.0; listed = b.0; rises = c.0 }
 
 -- where all records are weighed, the first is without fault and the later ones are weighed
-pub done_first : (clips : List ℕ) (i before n : ℕ) (x : Row) (xs : List Row) → records_weighed clips i before (x ∷ xs) ≡ TourAnswer.Done n
-    → FineRecord clips i before x × (records_weighed clips (i + 1) x.number xs ≡ TourAnswer.Done n)
+pub done_first : (clips : List ℕ) (i before n : ℕ) (x : Row) (xs : List Row) → records_weighed clips i before (x ∷ xs) ≡ Ok n
+    → FineRecord clips i before x × (records_weighed clips (i + 1) x.number xs ≡ Ok n)
 unfolding records_weighed
 done_first clips i before n x xs e = go (record_judged_of clips i before x) refl e
   where
-    go : (j : Judged) → record_judged_of clips i before x ≡ j → or_next j i (records_weighed clips (i + 1) x.number xs) ≡ TourAnswer.Done n
-        → FineRecord clips i before x × (records_weighed clips (i + 1) x.number xs ≡ TourAnswer.Done n)
-    go (Judged.Faulty y) g e = absurd (not_done e)
-    go Judged.Fine g e = (fine_record clips i before x g, e)
+    go : (j : Judged) → record_judged_of clips i before x ≡ j → or_next j i (records_weighed clips (i + 1) x.number xs) ≡ Ok n
+        → FineRecord clips i before x × (records_weighed clips (i + 1) x.number xs ≡ Ok n)
+    go (Err y) g e = absurd (not_done e)
+    go (Ok u) g e = (fine_record clips i before x g, e)
 
 -- and as many are answered
-pub done_count : (clips : List ℕ) (xs : List Row) (i before n : ℕ) → records_weighed clips i before xs ≡ TourAnswer.Done n → n ≡ i + length xs
+pub done_count : (clips : List ℕ) (xs : List Row) (i before n : ℕ) → records_weighed clips i before xs ≡ Ok n → n ≡ i + length xs
 unfolding records_weighed
 done_count clips [] i before n e = let z : i ≡ n = cc in omega arith
 done_count clips (x ∷ xs) i before n e = let l = done_count clips xs (i + 1) x.number n (done_first clips i before n x xs e).1 in omega arith
 
-pub all_weighed : (clips ws : List ℕ) (n : ℕ) → records_weighed clips 0 0 (records_of ws) ≡ TourAnswer.Done n → n ≡ length ws / 5
+pub all_weighed : (clips ws : List ℕ) (n : ℕ) → records_weighed clips 0 0 (records_of ws) ≡ Ok n → n ≡ length ws / 5
 all_weighed clips ws n e = let c = done_count clips (records_of ws) 0 0 n e in let l = records_length ws in omega arith
 
-done_readable : (clips ws : List ℕ) (k i before n : ℕ) → records_weighed clips i before (rows_from ws i k) ≡ TourAnswer.Done n → (j : ℕ) → i ≤ j → j < i + k → readable (row_at ws j) ≡ true
+done_readable : (clips ws : List ℕ) (k i before n : ℕ) → records_weighed clips i before (rows_from ws i k) ≡ Ok n → (j : ℕ) → i ≤ j → j < i + k → readable (row_at ws j) ≡ true
 unfolding rows_from
 done_readable clips ws zero i before n e j h g = absurd (omega arith)
 done_readable clips ws (suc k) i before n e j h g =
@@ -117,7 +118,7 @@ done_readable clips ws (suc k) i before n e j h g =
     ⊎_elim (λ (l : i < j). done_readable clips ws k (i + 1) (row_at ws i).number n f.1 j (omega arith) (omega arith))
     (λ (l : j ≤ i). let d : i ≡ j = omega arith in rw d at f.0.reads) (lt_or_le i j)
 
-pub all_readable : (clips ws : List ℕ) {n : ℕ} → records_weighed clips 0 0 (records_of ws) ≡ TourAnswer.Done n → (j : ℕ) → j < length ws / 5 → readable (row_at ws j) ≡ true
+pub all_readable : (clips ws : List ℕ) {n : ℕ} → records_weighed clips 0 0 (records_of ws) ≡ Ok n → (j : ℕ) → j < length ws / 5 → readable (row_at ws j) ≡ true
 unfolding records_of
 all_readable clips ws {n} e j h = done_readable clips ws (length ws / 5) 0 0 n e j (omega arith) (omega arith)
 

@@ -1,8 +1,18 @@
 -- What reader and writer answer: how many, or a fault with its place. Definitions only.
-use Rattle.std.specs.Prelude.{ℕ, Bool, true, false, List}
+use Rattle.std.specs.Prelude.{ℕ, Bool, true, false, List, Result, Ok, Err}
 use Rattle.tourfile.specs.declared.Fault.{Fault}
-use Rattle.tourfile.specs.declared.Judged.{Judged}
-use Rattle.tourfile.specs.declared.TourAnswer.{TourAnswer}
+use Rattle.tourfile.specs.declared.TourError.{TourError}
+
+-- what reader and writer answer, and how a field or a record is judged
+abbrev pub TourAnswer : Type 0
+TourAnswer = Result ℕ TourError
+
+abbrev pub Judged : Type 0
+Judged = Result (Unit {0}) Fault
+
+-- a fault with its place
+abbrev pub error_at : Fault → ℕ → TourError
+error_at x at = record { fault = x; place = at }
 
 -- the faults' numbers, in the request's order: of both, of the reader, and those that the writer alone has
 abbrev pub fault_number : Fault → ℕ
@@ -28,19 +38,19 @@ pub data SaysTour : Type 0 where
   refuses : ℕ → ℕ → SaysTour
 
 abbrev pub says_tour : TourAnswer → SaysTour
-says_tour (TourAnswer.Done n) = gives n
-says_tour (TourAnswer.Refused x at) = refuses (fault_number x) at
+says_tour (Ok n) = gives n
+says_tour (Err e) = refuses (fault_number e.fault) e.place
 
 -- a fault that is of no field and of no record is at 0
 abbrev pub refused : Fault → TourAnswer
-refused x = TourAnswer.Refused x 0
+refused x = Err (error_at x 0)
 
 -- a chain of faults: this one where its test holds, else what the later tests say
 unfoldable pub first : Bool → Fault → Judged → Judged
-first true x rest = Judged.Faulty x
+first true x rest = Err x
 first false x rest = rest
 
 -- what a call leaves in its lent store: what it does where it is done, else what was there
 abbrev pub left_by : TourAnswer → List ℕ → List ℕ → List ℕ
-left_by (TourAnswer.Done n) done store = done
-left_by (TourAnswer.Refused x at) done store = store
+left_by (Ok n) done store = done
+left_by (Err e) done store = store

@@ -1,5 +1,7 @@
 -- Reading a tour: the first faulty field from the left, or the records. Definitions only.
-use Rattle.std.specs.Prelude.{ℕ, ◌+◌, ◌/◌, List, [], ◌∷◌, Bool, ◌&&◌, ◌||◌, not, cond, length, leb, ltb, eqb}
+use Rattle.std.specs.Prelude.{ℕ, ◌+◌, ◌/◌, List, [], ◌∷◌, Bool, ◌&&◌, ◌||◌, not, cond, length, leb, ltb, eqb, Ok, Err}
+use Rattle.std.specs.declared.ops.ControlFlow.{ControlFlow}
+use Rattle.std.specs.declared.ops.ControlFlow.TheVariants.{Continue, Break}
 use Rattle.timeline.specs.declared.Row.{Row}
 use Rattle.timeline.specs.Record.{row}
 use Rattle.timeline.specs.Store.{put_row}
@@ -7,11 +9,12 @@ use Rattle.fields.specs.Bytes.{two}
 use Rattle.fields.specs.Clips.{is_listed, listed_twice}
 use Rattle.fields.specs.Field.{is_whole, fields_of, is_more, tag_of, frame_in, number_in, kind_in, clip_in, is_kind, first_part, second_part, part_size, carried, has_clip, part_in}
 use Rattle.tourfile.specs.declared.Fault.{Fault}
-use Rattle.tourfile.specs.declared.Judged.{Judged}
 use Rattle.tourfile.specs.declared.Progress.{Progress}
-use Rattle.tourfile.specs.declared.TourAnswer.{TourAnswer}
-use Rattle.tourfile.specs.declared.Turn.{Turn}
-use Rattle.tourfile.specs.Answer.{refused, first, left_by}
+use Rattle.tourfile.specs.Answer.{TourAnswer, Judged, error_at, refused, first, left_by}
+
+-- what a field gives: the way on, or the answer
+abbrev pub Turn : Type 0
+Turn = ControlFlow TourAnswer Progress
 
 -- before the first field
 abbrev pub start : Progress
@@ -66,7 +69,7 @@ judged_of clips p more f =
     (first (not_rising p f) Fault.NotRising
     (first (too_many p f) Fault.TooMany
     (first (wrong_count p f) Fault.WrongCount
-    (first (bytes_after more f) Fault.BytesAfter Judged.Fine))))))))))
+    (first (bytes_after more f) Fault.BytesAfter (Ok tt)))))))))))
 
 -- behind a field
 unfoldable pub behind : Progress → List ℕ → Progress
@@ -76,26 +79,26 @@ behind p f =
 
 -- a faulty field and the last one give the answer
 unfoldable pub settled : Judged → Progress → List ℕ → Turn
-settled (Judged.Faulty x) p f = Turn.Stop (TourAnswer.Refused x p.at)
-settled Judged.Fine p f = cond (eqb (tag_of f) 3) (Turn.Stop (TourAnswer.Done p.count)) (Turn.On (behind p f))
+settled (Err x) p f = Break (Err (error_at x p.at))
+settled (Ok u) p f = cond (eqb (tag_of f) 3) (Break (Ok p.count)) (Continue (behind p f))
 
 unfoldable pub turn_of : List ℕ → Progress → Bool → List ℕ → Turn
 turn_of clips p more f = settled (judged_of clips p more f) p f
 
 -- the answer, or what the later fields say
 abbrev pub or_else : Turn → (Progress → TourAnswer) → TourAnswer
-or_else (Turn.Stop a) later = a
-or_else (Turn.On p) later = later p
+or_else (Break a) later = a
+or_else (Continue p) later = later p
 
 -- from left to right; where the last field should begin and nothing does, the file is cut short
 unfoldable pub weighed : List ℕ → Progress → List (List ℕ) → TourAnswer
-weighed clips p [] = TourAnswer.Refused Fault.CutShort p.at
+weighed clips p [] = Err (error_at Fault.CutShort p.at)
 weighed clips p (f ∷ fs) = or_else (turn_of clips p (is_more fs) f) (λ q. weighed clips q fs)
 
 -- last, the list for records: five words each
 abbrev pub fitted : ℕ → TourAnswer → TourAnswer
-fitted room (TourAnswer.Done n) = cond (leb n (room / 5)) (TourAnswer.Done n) (refused Fault.ListTooShort)
-fitted room (TourAnswer.Refused x at) = TourAnswer.Refused x at
+fitted room (Ok n) = cond (leb n (room / 5)) (Ok n) (refused Fault.ListTooShort)
+fitted room (Err e) = Err e
 
 -- what the reader answers
 unfoldable pub read_of : List ℕ → List ℕ → ℕ → TourAnswer

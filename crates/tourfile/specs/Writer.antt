@@ -1,5 +1,5 @@
 -- Writing a tour: the first record at fault, or the file. Definitions only.
-use Rattle.std.specs.Prelude.{ℕ, zero, suc, ◌+◌, ◌/◌, List, [], ◌∷◌, ◌++◌, Bool, ◌&&◌, not, cond, length, leb, ltb, eqb}
+use Rattle.std.specs.Prelude.{ℕ, zero, suc, ◌+◌, ◌/◌, List, [], ◌∷◌, ◌++◌, Bool, ◌&&◌, not, cond, length, leb, ltb, eqb, Ok, Err}
 use Rattle.std.proofs.lemmas.List.Edits.{sets}
 use Rattle.timeline.specs.declared.Row.{Row}
 use Rattle.timeline.specs.Record.{readable}
@@ -8,9 +8,7 @@ use Rattle.fields.specs.Bytes.{two_bytes, eight_bytes}
 use Rattle.fields.specs.Clips.{listed_twice, clip_byte}
 use Rattle.fields.specs.Field.{first_part, second_part, carried, has_clip, part_bytes}
 use Rattle.tourfile.specs.declared.Fault.{Fault}
-use Rattle.tourfile.specs.declared.Judged.{Judged}
-use Rattle.tourfile.specs.declared.TourAnswer.{TourAnswer}
-use Rattle.tourfile.specs.Answer.{refused, first, left_by}
+use Rattle.tourfile.specs.Answer.{TourAnswer, Judged, error_at, refused, first, left_by}
 
 -- a command's field up to its kind: tag and length, clock frame, number, kind
 unfoldable pub head_bytes : Row → List ℕ
@@ -57,22 +55,22 @@ late i before x = ltb 0 i && leb x.number before
 unfoldable pub record_judged_of : List ℕ → ℕ → ℕ → Row → Judged
 record_judged_of clips i before x =
     first (not (readable x)) Fault.Unreadable
-    (first (unlisted clips x) Fault.ClipNotListed (first (late i before x) Fault.NotRising Judged.Fine))
+    (first (unlisted clips x) Fault.ClipNotListed (first (late i before x) Fault.NotRising (Ok tt)))
 
 -- the first record at fault, or how many there are
 abbrev pub or_next : Judged → ℕ → TourAnswer → TourAnswer
-or_next (Judged.Faulty x) i later = TourAnswer.Refused x i
-or_next Judged.Fine i later = later
+or_next (Err x) i later = Err (error_at x i)
+or_next (Ok u) i later = later
 
 unfoldable pub records_weighed : List ℕ → ℕ → ℕ → List Row → TourAnswer
-records_weighed clips i before [] = TourAnswer.Done i
+records_weighed clips i before [] = Ok i
 records_weighed clips i before (x ∷ xs) = or_next (record_judged_of clips i before x) i (records_weighed clips (i + 1) x.number xs)
 
 -- then more than 4,096, then the output
 abbrev pub written : ℕ → ℕ → TourAnswer → TourAnswer
-written size room (TourAnswer.Done n) =
-    cond (ltb 4096 n) (refused Fault.TooMany) (cond (ltb room size) (refused Fault.OutputTooShort) (TourAnswer.Done size))
-written size room (TourAnswer.Refused x i) = TourAnswer.Refused x i
+written size room (Ok n) =
+    cond (ltb 4096 n) (refused Fault.TooMany) (cond (ltb room size) (refused Fault.OutputTooShort) (Ok size))
+written size room (Err e) = Err e
 
 -- what the writer answers
 unfoldable pub write_of : List ℕ → List Row → ℕ → TourAnswer

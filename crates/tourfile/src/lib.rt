@@ -6,11 +6,12 @@ ghost use Rattle.std.proofs.lemmas.List.Edits.{sets};
 ghost use Rattle.timeline.specs.Record.{readable};
 ghost use Rattle.fields.specs.Bytes.{two_bytes, eight_bytes};
 ghost use Rattle.fields.specs.Field.{fields_of, carried};
-ghost use Rattle.tourfile.specs.Answer.{fault_number};
+ghost use Rattle.tourfile.specs.Answer.{fault_number, error_at};
 ghost use Rattle.tourfile.specs.Reader.{start, wrong_first, unknown_tag, wrong_length, other_version, unknown_kind, not_listed, not_rising, too_many, wrong_count, bytes_after, judged_of, behind, turn_of, weighed, read_of, row_in, rows_in, put_rows, read_into};
 ghost use Rattle.tourfile.specs.Writer.{head_bytes, command_bytes, version_bytes, last_bytes, tail_bytes, file_of, records_of, rows_from, write_of, write_into, unlisted, late, record_judged_of, records_weighed};
 ghost use Rattle.tourfile.specs.Steps.{front_turn, size_of, CanWrite};
 
+use std::ops::ControlFlow;
 use timeline::Row;
 
 /// Why a tour is not read, or not written.
@@ -56,21 +57,20 @@ impl Fault {
             Fault::OutputTooShort => 115,
         }
     }
+
+    /// With its place.
+    fn at(self, place: usize) -> TourError
+        ensures { result ≡ error_at self place }
+    {
+        TourError { fault: self, place }
+    }
 }
 
-/// What reader and writer answer: how many records or bytes, or a fault with its place, which is a faulty field's first
-/// byte, or the place in the list of a record at fault, else 0.
+/// A fault with its place, which is a faulty field's first byte, or the place in the list of a record at fault, else 0.
 #[derive(Clone, Copy)]
-pub enum TourAnswer {
-    Done(usize),
-    Refused(Fault, usize),
-}
-
-/// How a field or a record is judged.
-#[derive(Clone, Copy)]
-pub enum Judged {
-    Fine,
-    Faulty(Fault),
+pub struct TourError {
+    pub fault: Fault,
+    pub place: usize,
 }
 
 /// How far the reader has come: the next field's first byte, the commands before it, and the last one's number.
@@ -82,11 +82,7 @@ pub struct Progress {
 }
 
 /// What a field gives: the way on, or the answer.
-#[derive(Clone, Copy)]
-pub enum Turn {
-    On(Progress),
-    Stop(TourAnswer),
-}
+type Turn = ControlFlow<Result<usize, TourError>, Progress>;
 
 // ---- what may be wrong with a field
 
@@ -185,43 +181,43 @@ fn bytes_after(more: bool, f: &[u8]) -> bool
 }
 
 /// What is wrong with a field.
-fn judge(clips: &[u64; 32], p: Progress, more: bool, f: &[u8]) -> Judged
+fn judge(clips: &[u64; 32], p: Progress, more: bool, f: &[u8]) -> Result<(), Fault>
     ensures { result ≡ judged_of clips.now p more f.now }
 {
     if !fields::is_whole(f) {
-        return Judged::Faulty(Fault::CutShort);
+        return Err(Fault::CutShort);
     }
     if wrong_first(p, f) {
-        return Judged::Faulty(Fault::WrongFirstTag);
+        return Err(Fault::WrongFirstTag);
     }
     if unknown_tag(p, f) {
-        return Judged::Faulty(Fault::UnknownTag);
+        return Err(Fault::UnknownTag);
     }
     if wrong_length(f) {
-        return Judged::Faulty(Fault::WrongLength);
+        return Err(Fault::WrongLength);
     }
     if other_version(f) {
-        return Judged::Faulty(Fault::OtherVersion);
+        return Err(Fault::OtherVersion);
     }
     if unknown_kind(f) {
-        return Judged::Faulty(Fault::UnknownKind);
+        return Err(Fault::UnknownKind);
     }
     if not_listed(clips, f) {
-        return Judged::Faulty(Fault::ClipNotListed);
+        return Err(Fault::ClipNotListed);
     }
     if not_rising(p, f) {
-        return Judged::Faulty(Fault::NotRising);
+        return Err(Fault::NotRising);
     }
     if too_many(p, f) {
-        return Judged::Faulty(Fault::TooMany);
+        return Err(Fault::TooMany);
     }
     if wrong_count(p, f) {
-        return Judged::Faulty(Fault::WrongCount);
+        return Err(Fault::WrongCount);
     }
     if bytes_after(more, f) {
-        return Judged::Faulty(Fault::BytesAfter);
+        return Err(Fault::BytesAfter);
     }
-    Judged::Fine
+    Ok(())
 }
 
 /// Behind a field.
@@ -250,16 +246,13 @@ fn take_turn(clips: &[u64; 32], p: Progress, more: bool, f: &[u8]) -> Turn
     requires { (p.count ≤ p.at) × (p.at + length f.now < 2 ^ 64) × (0 < length f.now) }
     ensures { result ≡ turn_of clips.now p more f.now }
 {
-    let j = judge(clips, p, more, f);
-    match j {
-        Judged::Faulty(x) => Turn::Stop(TourAnswer::Refused(x, p.at)),
-        Judged::Fine => {
-            if fields::byte(f, 0) == 3 {
-                return Turn::Stop(TourAnswer::Done(p.count));
-            }
-            Turn::On(behind(p, f))
-        }
+    if let Err(x) = judge(clips, p, more, f) {
+        return ControlFlow::Break(Err(x.at(p.at)));
     }
+    if fields::byte(f, 0) == 3 {
+        return ControlFlow::Break(Ok(p.count));
+    }
+    ControlFlow::Continue(behind(p, f))
 }
 
 /// The turn of the field that the reader has come to.
@@ -276,7 +269,7 @@ fn front_turn(clips: &[u64; 32], p: Progress, file: &[u8]) -> Turn
 }
 
 /// From left to right: the first faulty field, or how many commands there are.
-fn weigh(clips: &[u64; 32], file: &[u8]) -> TourAnswer
+fn weigh(clips: &[u64; 32], file: &[u8]) -> Result<usize, TourError>
     ensures { result ≡ weighed clips.now start (fields_of file.now) }
 {
     let mut p = Progress {
@@ -285,15 +278,12 @@ fn weigh(clips: &[u64; 32], file: &[u8]) -> TourAnswer
         last: 0,
     };
     while p.at < file.len() {
-        let t = front_turn(clips, p, file);
-        match t {
-            Turn::Stop(a) => return a,
-            Turn::On(q) => {
-                p = q;
-            }
+        match front_turn(clips, p, file) {
+            ControlFlow::Break(a) => return a,
+            ControlFlow::Continue(q) => p = q,
         }
     }
-    TourAnswer::Refused(Fault::CutShort, p.at)
+    Err(Fault::CutShort.at(p.at))
 }
 
 // ---- the records
@@ -337,38 +327,28 @@ pub fn fill(clips: &[u64; 32], file: &[u8], list: &mut [u64])
 }
 
 /// What the reader answers for a list of so many words: how many commands there are, or why it reads none.
-pub fn weigh_read(clips: &[u64; 32], file: &[u8], room: usize) -> TourAnswer
+pub fn weigh_read(clips: &[u64; 32], file: &[u8], room: usize) -> Result<usize, TourError>
     ensures { result ≡ read_of clips.now file.now room }
 {
     if fields::listed_twice(clips) {
-        return TourAnswer::Refused(Fault::ListedTwice, 0);
+        return Err(Fault::ListedTwice.at(0));
     }
-    let a = weigh(clips, file);
-    match a {
-        TourAnswer::Refused(x, at) => TourAnswer::Refused(x, at),
-        TourAnswer::Done(n) => {
-            let records = room / 5;
-            if records < n {
-                return TourAnswer::Refused(Fault::ListTooShort, 0);
-            }
-            TourAnswer::Done(n)
-        }
+    let n = weigh(clips, file)?;
+    let records = room / 5;
+    if records < n {
+        return Err(Fault::ListTooShort.at(0));
     }
+    Ok(n)
 }
 
 /// Reads a tour: the records of its commands at the list's front, or why there are none.
-pub fn read_tour(clips: &[u64; 32], file: &[u8], list: &mut [u64]) -> TourAnswer
+pub fn read_tour(clips: &[u64; 32], file: &[u8], list: &mut [u64]) -> Result<usize, TourError>
     ensures value { result ≡ read_of clips.now file.now (length list.old) }
     ensures list_after { list.new ≡ read_into clips.now file.now list.old }
 {
-    let a = weigh_read(clips, file, list.len());
-    match a {
-        TourAnswer::Refused(x, at) => TourAnswer::Refused(x, at),
-        TourAnswer::Done(n) => {
-            fill(clips, file, list);
-            TourAnswer::Done(n)
-        }
-    }
+    let n = weigh_read(clips, file, list.len())?;
+    fill(clips, file, list);
+    Ok(n)
 }
 
 // ---- the writer
@@ -390,23 +370,23 @@ fn is_late(i: usize, before: u64, x: Row) -> bool
 }
 
 /// What is wrong with record i.
-fn judge_record(clips: &[u64; 32], i: usize, before: u64, x: Row) -> Judged
+fn judge_record(clips: &[u64; 32], i: usize, before: u64, x: Row) -> Result<(), Fault>
     ensures { result ≡ record_judged_of clips.now i before x }
 {
     if !timeline::readable(x) {
-        return Judged::Faulty(Fault::Unreadable);
+        return Err(Fault::Unreadable);
     }
     if is_unlisted(clips, x) {
-        return Judged::Faulty(Fault::ClipNotListed);
+        return Err(Fault::ClipNotListed);
     }
     if is_late(i, before, x) {
-        return Judged::Faulty(Fault::NotRising);
+        return Err(Fault::NotRising);
     }
-    Judged::Fine
+    Ok(())
 }
 
 /// The first record at fault, or how many there are.
-fn weigh_records(clips: &[u64; 32], records: &[u64]) -> TourAnswer
+fn weigh_records(clips: &[u64; 32], records: &[u64]) -> Result<usize, TourError>
     ensures { result ≡ records_weighed clips.now 0 0 (records_of records.now) }
 {
     let n = records.len() / 5;
@@ -414,16 +394,13 @@ fn weigh_records(clips: &[u64; 32], records: &[u64]) -> TourAnswer
     let mut before: u64 = 0;
     while i < n {
         let x = timeline::row_at(records, i);
-        let j = judge_record(clips, i, before, x);
-        match j {
-            Judged::Faulty(f) => return TourAnswer::Refused(f, i),
-            Judged::Fine => {
-                before = x.number;
-                i += 1;
-            }
+        if let Err(f) = judge_record(clips, i, before, x) {
+            return Err(f.at(i));
         }
+        before = x.number;
+        i += 1;
     }
-    TourAnswer::Done(i)
+    Ok(i)
 }
 
 /// Writes the tag and the length of a command.
@@ -535,26 +512,21 @@ fn put_tour(out: &mut [u8], clips: &[u64; 32], records: &[u64])
 }
 
 /// Writes a tour: its file at the output's front, or why there is none.
-pub fn write_tour(clips: &[u64; 32], records: &[u64], out: &mut [u8]) -> TourAnswer
+pub fn write_tour(clips: &[u64; 32], records: &[u64], out: &mut [u8]) -> Result<usize, TourError>
     ensures value { result ≡ write_of clips.now (records_of records.now) (length out.old) }
     ensures out_after { out.new ≡ write_into clips.now (records_of records.now) out.old }
 {
     if fields::listed_twice(clips) {
-        return TourAnswer::Refused(Fault::ListedTwice, 0);
+        return Err(Fault::ListedTwice.at(0));
     }
-    let a = weigh_records(clips, records);
-    match a {
-        TourAnswer::Refused(x, i) => TourAnswer::Refused(x, i),
-        TourAnswer::Done(n) => {
-            if 4096 < n {
-                return TourAnswer::Refused(Fault::TooMany, 0);
-            }
-            let size = tour_size(records, n);
-            if out.len() < size {
-                return TourAnswer::Refused(Fault::OutputTooShort, 0);
-            }
-            put_tour(out, clips, records);
-            TourAnswer::Done(size)
-        }
+    let n = weigh_records(clips, records)?;
+    if 4096 < n {
+        return Err(Fault::TooMany.at(0));
     }
+    let size = tour_size(records, n);
+    if out.len() < size {
+        return Err(Fault::OutputTooShort.at(0));
+    }
+    put_tour(out, clips, records);
+    Ok(size)
 }

@@ -7,15 +7,15 @@ use Rattle.fields.proofs.Fields.{fields_none}
 use Rattle.tourfile.proofs.Turns.{stops, on_further, on_count, on_same}
 use Rattle.tourfile.proofs.weigh.Goals as goal
 
-pub returns-in-Stop : goal.returns-in-Stop
-returns-in-Stop c = let l = c.loop-p in
-    stops _ _ _ c.loop-p-test.true _ (sym c.front_turn-t.ensures ∙ c.in-Stop.is) ∙ l.invariant.2
+pub returns-in-Break : goal.returns-in-Break
+returns-in-Break c = let l = c.loop-p in
+    stops _ _ _ c.loop-p-test.true _ (sym c.front_turn.ensures ∙ c.in-Break.is) ∙ l.invariant.2
 
 pub loop-p-smaller : goal.loop-p-smaller
 loop-p-smaller c =
     let a = c.args in
     let l = c.loop-p in
-    let f = on_further a.clips.now a.file.now l.p c.loop-p-test.true c.in-On.q (sym c.front_turn-t.ensures ∙ c.in-On.is) in
+    let f = on_further a.clips.now a.file.now l.p c.loop-p-test.true c.in-Continue.q (sym c.front_turn.ensures ∙ c.in-Continue.is) in
     omega arith
 
 pub loop-p-preserved : goal.loop-p-preserved
@@ -23,8 +23,8 @@ loop-p-preserved c =
     let a = c.args in
     let l = c.loop-p in
     let h = c.loop-p-test.true in
-    let q = c.in-On.q in
-    let e = sym c.front_turn-t.ensures ∙ c.in-On.is in
+    let q = c.in-Continue.q in
+    let e = sym c.front_turn.ensures ∙ c.in-Continue.is in
     let f = on_further a.clips.now a.file.now l.p h q e in
     (on_count a.clips.now a.file.now l.p h q e l.invariant.0, f.1, on_same a.clips.now a.file.now l.p h q e ∙ l.invariant.2)
 
@@ -33,4 +33,4 @@ unfolding weighed
 returns c =
     let l = c.loop-p in
     let z : length (drop l.p.at c.args.file.now) ≡ 0 = simp length-drop (omega arith) in
-    rw (fields_none _ z) at l.invariant.2
+    rw c.at.ensures (rw (fields_none _ z) at l.invariant.2)

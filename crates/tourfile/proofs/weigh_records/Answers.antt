@@ -13,18 +13,18 @@ unfolding records_of
 loop-i-init c = let e : length c.args.records.now / 5 - 0 ≡ length c.args.records.now / 5 = omega arith in
     (search rules, rw e refl)
 
-pub returns-in-Faulty : goal.returns-in-Faulty
-returns-in-Faulty c =
+pub returns-in-Err : goal.returns-in-Err
+returns-in-Err c =
     let a = c.args in
     let l = c.loop-i in
-    lined_stop a.clips.now a.records.now l.i (length a.records.now / 5) l.before c.loop-i-test.true _ (rw c.row_at-x.ensures at (sym c.judge_record-j.ensures ∙ c.in-Faulty.is)) ∙ l.invariant.1
+    rw c.at.ensures (lined_stop a.clips.now a.records.now l.i (length a.records.now / 5) l.before c.loop-i-test.true _ (rw c.row_at-x.ensures at (sym c.judge_record.ensures ∙ c.in-Err.is)) ∙ l.invariant.1)
 
 pub loop-i-preserved : goal.loop-i-preserved
 loop-i-preserved c =
     let a = c.args in
     let l = c.loop-i in
     let e = c.row_at-x.ensures in
-    let o = lined_on a.clips.now a.records.now l.i (length a.records.now / 5) l.before c.loop-i-test.true (rw e at (sym c.judge_record-j.ensures ∙ c.in-Fine.is)) in
+    let o = lined_on a.clips.now a.records.now l.i (length a.records.now / 5) l.before c.loop-i-test.true (rw e at (sym c.judge_record.ensures ∙ c.in_default.is)) in
     (omega arith, rw e (sym o ∙ l.invariant.1))
 
 pub returns : goal.returns

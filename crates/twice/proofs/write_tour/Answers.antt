@@ -2,7 +2,7 @@
 use mathlib.Core.List.{List}
 use Prim.Native.Nat.{ℕ}
 use lib.ListN.{length}
-use Rattle.tourfile.specs.declared.TourAnswer.{TourAnswer}
+use Rattle.tourfile.specs.Answer.{TourAnswer}
 use Rattle.tourfile.specs.Writer.{records_of, write_of, write_into}
 use Rattle.twice.proofs.Same.{same₃}
 use Rattle.twice.proofs.write_tour.Goals as goal
