@@ -12,7 +12,8 @@ use Rattle.fields.proofs.Writes.{two_writes}
 use Rattle.tourfile.specs.declared.Fault.{Fault}
 use Rattle.tourfile.specs.Writer.{version_bytes, last_bytes}
 use Rattle.remains.specs.declared.Salvaged.{Salvaged}
-use Rattle.remains.specs.declared.SalvageAnswer.{SalvageAnswer}
+use Rattle.remains.specs.Salvage.{SalvageAnswer}
+use Rattle.std.specs.Prelude.{Ok, Err}
 use Rattle.remains.specs.Salvage.{ranges_of, kept_fields, laid, file_with, fresh, range_words, salvage_of, salvage_out, salvage_list}
 
 -- the file of some fields: its length, and how it is written
@@ -33,12 +34,12 @@ module _ (file out list : List ℕ) where
   abbrev kept : List (List ℕ)
   kept = kept_fields file (ranges_of file)
 
-  pub left_many : 4096 < length (kept_fields file (ranges_of file)) → Left (SalvageAnswer.Refused Fault.TooMany) out list
+  pub left_many : 4096 < length (kept_fields file (ranges_of file)) → Left (Err Fault.TooMany) out list
   unfolding salvage_of salvage_out salvage_list
   left_many h = let e = lt-ltb 4096 (length kept) h in (rw e refl, rw e refl, rw e refl)
 
   module _ (f : length (kept_fields file (ranges_of file)) ≤ 4096) where
-    pub left_short : length out < 10 + length (laid (kept_fields file (ranges_of file))) → Left (SalvageAnswer.Refused Fault.OutputTooShort) out list
+    pub left_short : length out < 10 + length (laid (kept_fields file (ranges_of file))) → Left (Err Fault.OutputTooShort) out list
     unfolding salvage_of salvage_out salvage_list fresh
     left_short h =
         let e = le-ltb 4096 (length kept) f in
@@ -46,7 +47,7 @@ module _ (file out list : List ℕ) where
         (rw (e, g) refl, rw (e, g) refl, rw (e, g) refl)
 
     module _ (r : 10 + length (laid (kept_fields file (ranges_of file))) ≤ length out) where
-      pub left_less : length list / 3 < length (ranges_of file) → Left (SalvageAnswer.Refused Fault.ListTooShort) out list
+      pub left_less : length list / 3 < length (ranges_of file) → Left (Err Fault.ListTooShort) out list
       unfolding salvage_of salvage_out salvage_list fresh
       left_less h =
           let e = le-ltb 4096 (length kept) f in
@@ -55,7 +56,7 @@ module _ (file out list : List ℕ) where
           (rw (e, g, k) refl, rw (e, g, k) refl, rw (e, g, k) refl)
 
       pub left_done : length (ranges_of file) ≤ length list / 3
-          → Left (SalvageAnswer.Done (record { kept = length (kept_fields file (ranges_of file)); bytes = 10 + length (laid (kept_fields file (ranges_of file))); ranges = length (ranges_of file) }))
+          → Left (Ok (record { kept = length (kept_fields file (ranges_of file)); bytes = 10 + length (laid (kept_fields file (ranges_of file))); ranges = length (ranges_of file) }))
           (sets out 0 (fresh file)) (sets list 0 (range_words (ranges_of file)))
       unfolding salvage_of salvage_out salvage_list fresh
       left_done h =
@@ -74,10 +75,10 @@ pub record Done (file : List ℕ) (room list : ℕ) (t : Salvaged) : Type 0 wher
   pub fits : length (fresh file) ≤ room
   pub listed : length (ranges_of file) ≤ list / 3
 
-not_done : {x : Fault} {t : Salvaged} → SalvageAnswer.Refused x ≡ SalvageAnswer.Done t → ⊥
+not_done : {x : Fault} {t : Salvaged} → ◌≡◌ {A = SalvageAnswer} (Err x) (Ok t) → ⊥
 not_done e = let z : ◌≡◌ {A = ℕ} 0 1 = cc in absurd (omega arith)
 
-pub done_salvage : (file : List ℕ) (room list : ℕ) (t : Salvaged) → salvage_of file room list ≡ SalvageAnswer.Done t → Done file room list t
+pub done_salvage : (file : List ℕ) (room list : ℕ) (t : Salvaged) → salvage_of file room list ≡ Ok t → Done file room list t
 unfolding salvage_of
 done_salvage file room list t e = go (ltb 4096 (length (kept_fields file (ranges_of file)))) (ltb room (length (fresh file))) (ltb (list / 3) (length (ranges_of file))) refl refl refl e
   where
@@ -85,7 +86,7 @@ done_salvage file room list t e = go (ltb 4096 (length (kept_fields file (ranges
     told = record { kept = length (kept_fields file (ranges_of file)); bytes = length (fresh file); ranges = length (ranges_of file) }
 
     go : (x y z : Bool) → ltb 4096 (length (kept_fields file (ranges_of file))) ≡ x → ltb room (length (fresh file)) ≡ y → ltb (list / 3) (length (ranges_of file)) ≡ z
-        → cond x (SalvageAnswer.Refused Fault.TooMany) (cond y (SalvageAnswer.Refused Fault.OutputTooShort) (cond z (SalvageAnswer.Refused Fault.ListTooShort) (SalvageAnswer.Done told))) ≡ SalvageAnswer.Done t
+        → cond x (Err Fault.TooMany) (cond y (Err Fault.OutputTooShort) (cond z (Err Fault.ListTooShort) (Ok told))) ≡ Ok t
         → Done file room list t
     go true y z f g h e = absurd (not_done e)
     go false true z f g h e = absurd (not_done e)

@@ -18,15 +18,17 @@ use Rattle.tourfile.specs.declared.Progress.{Progress}
 use Rattle.tourfile.specs.Reader.{start, behind}
 use Rattle.tourfile.proofs.Turns.{behind_at}
 use Rattle.remains.specs.declared.Range.{Range}
-use Rattle.remains.specs.Salvage.{field_at, what, byte_on, past, steps, before, joined, ranges_of, kept_fields, laid, range_words}
+use Rattle.remains.specs.Salvage.{drops, fate_word, field_at, what, byte_on, past, steps, before, joined, ranges_of, kept_fields, laid, range_words}
 use Rattle.remains.specs.Steps.{run_end, next}
+use Rattle.remains.specs.declared.Fate.{Fate}
+use Rattle.remains.proofs.Fates.{keeps-other, drops-true, drops-false, drops-other}
 use Rattle.remains.proofs.Runs.{field_within, run_stop, run_on, next_run, next_field, next_kept}
 
 -- ---- steps
 
 past_at : (file : List ℕ) (p : Progress) → p.at < length file → p.at < (past file p).at
 unfolding past
-past_at file p h = go (eqb (what file p) 3)
+past_at file p h = go (drops (what file p))
   where
     go : (b : Bool) → p.at < (cond {A = Progress} b (byte_on p) (behind p (field_at file p.at))).at
     go true = omega arith
@@ -82,14 +84,14 @@ from_step file p h = go (length file) refl
         rw (steps_some n file p h) (ap (λ (r : List Range). before (step file p) (joined r)) (steps_enough n (length file) file (past file p) (omega arith) (omega arith)))
 
 -- what is not dropped stays a range of its own, and so does what is dropped before it
-before_other : (r : Range) (rs : List Range) → eqb r.what 3 ≡ false → before r rs ≡ r ∷ rs
+before_other : (r : Range) (rs : List Range) → drops r.what ≡ false → before r rs ≡ r ∷ rs
 unfolding before
 before_other r [] e = refl
 before_other r (q ∷ rs) e = rw e refl
 
-other_before : (r q : Range) (rs : List Range) → eqb q.what 3 ≡ false → before r (q ∷ rs) ≡ r ∷ q ∷ rs
+other_before : (r q : Range) (rs : List Range) → drops q.what ≡ false → before r (q ∷ rs) ≡ r ∷ q ∷ rs
 unfolding before
-other_before r q rs e = rw e (go (eqb r.what 3) _ _)
+other_before r q rs e = rw e (go (drops r.what) _ _)
   where
     go : (b : Bool) (x y : List Range) → cond (b && false) x y ≡ y
     go true x y = refl
@@ -99,33 +101,33 @@ other_before r q rs e = rw e (go (eqb r.what 3) _ _)
 abbrev pub range : List ℕ → Progress → Range
 range file p = record { what = what file p; from = p.at; to = (next file p).at }
 
-past_field : (file : List ℕ) (p : Progress) → (what file p ≡ 3 → ⊥) → past file p ≡ next file p
+past_field : (file : List ℕ) (p : Progress) → (what file p ≡ Fate.Dropped → ⊥) → past file p ≡ next file p
 unfolding past
-past_field file p n = rw (ne_eqb (what file p) 3 n) (sym (next_field file p n))
+past_field file p n = rw (drops-other (what file p) n) (sym (next_field file p n))
 
-past_byte : (file : List ℕ) (p : Progress) → what file p ≡ 3 → past file p ≡ byte_on p
+past_byte : (file : List ℕ) (p : Progress) → what file p ≡ Fate.Dropped → past file p ≡ byte_on p
 unfolding past
 past_byte file p e = rw e refl
 
 -- a field that is kept or passed over
-field_first : (file : List ℕ) (p : Progress) → p.at < length file → (what file p ≡ 3 → ⊥) → from file p ≡ range file p ∷ from file (next file p)
+field_first : (file : List ℕ) (p : Progress) → p.at < length file → (what file p ≡ Fate.Dropped → ⊥) → from file p ≡ range file p ∷ from file (next file p)
 field_first file p h n =
-    from_step file p h ∙ before_other (step file p) (from file (past file p)) (ne_eqb (what file p) 3 n) ∙ rw (past_field file p n) refl
+    from_step file p h ∙ before_other (step file p) (from file (past file p)) (drops-other (what file p) n) ∙ rw (past_field file p n) refl
 
 -- a run of dropped bytes
 module _ (a b : ℕ) where
   abbrev run : Range
-  run = record { what = 3; from = a; to = b }
+  run = record { what = Fate.Dropped; from = a; to = b }
 
   run_alone : before run [] ≡ run ∷ []
   unfolding before
   run_alone = refl
 
-  run_joins : (c d : ℕ) (rs : List Range) → before run (record { what = 3; from = c; to = d } ∷ rs) ≡ record { what = 3; from = a; to = d } ∷ rs
+  run_joins : (c d : ℕ) (rs : List Range) → before run (record { what = Fate.Dropped; from = c; to = d } ∷ rs) ≡ record { what = Fate.Dropped; from = a; to = d } ∷ rs
   unfolding before
   run_joins c d rs = refl
 
-run_first : (k : ℕ) (file : List ℕ) (p : Progress) → length file - p.at ≤ k → p.at < length file → what file p ≡ 3
+run_first : (k : ℕ) (file : List ℕ) (p : Progress) → length file - p.at ≤ k → p.at < length file → what file p ≡ Fate.Dropped
     → from file p ≡ run p.at (run_end (length file) file p) ∷ from file (record { at = run_end (length file) file p; count = p.count; last = p.last })
 run_first zero file p g h e = absurd (omega arith)
 run_first (suc k) file p g h e =
@@ -134,13 +136,13 @@ run_first (suc k) file p g h e =
     (⊎_elim
     (λ (l : p.at + 1 < length file).
     ⊎_elim
-    (λ (w : eqb (what file (byte_on p)) 3 ≡ true).
-    ap (before (run p.at (p.at + 1))) (run_first k file (byte_on p) (omega arith) l (eqb-true (what file (byte_on p)) 3 w))
+    (λ (w : drops (what file (byte_on p)) ≡ true).
+    ap (before (run p.at (p.at + 1))) (run_first k file (byte_on p) (omega arith) l (drops-true (what file (byte_on p)) w))
     ∙ run_joins p.at (p.at + 1) (p.at + 1) (run_end (length file) file (byte_on p)) (from file (record { at = run_end (length file) file (byte_on p); count = p.count; last = p.last })))
-    (λ (w : eqb (what file (byte_on p)) 3 ≡ false).
-    let n = eqb-false (what file (byte_on p)) 3 w in
+    (λ (w : drops (what file (byte_on p)) ≡ false).
+    let n = drops-false (what file (byte_on p)) w in
     rw (run_stop (length file) file (byte_on p) (λ m. n), field_first file (byte_on p) l n) (other_before (run p.at (p.at + 1)) (range file (byte_on p)) (from file (next file (byte_on p))) w))
-    (two_ways (eqb (what file (byte_on p)) 3)))
+    (two_ways (drops (what file (byte_on p)))))
     (λ (l : length file ≤ p.at + 1).
     rw (run_stop (length file) file (byte_on p) (λ m. absurd (omega arith)), from_none file (byte_on p) l) (run_alone p.at (p.at + 1)))
     (lt_or_le (p.at + 1) (length file)))
@@ -150,16 +152,16 @@ module _ (file : List ℕ) (p : Progress) (h : p.at < length file) where
   pub from_front : from file p ≡ range file p ∷ from file (next file p)
   from_front =
       ⊎_elim
-      (λ (e : eqb (what file p) 3 ≡ true).
-      let w = eqb-true (what file p) 3 e in
+      (λ (e : drops (what file p) ≡ true).
+      let w = drops-true (what file p) e in
       run_first (length file) file p (omega arith) h w ∙ rw (next_run file p w, w) refl)
-      (λ (e : eqb (what file p) 3 ≡ false). field_first file p h (eqb-false (what file p) 3 e)) (two_ways (eqb (what file p) 3))
+      (λ (e : drops (what file p) ≡ false). field_first file p h (drops-false (what file p) e)) (two_ways (drops (what file p)))
 
   pub length_next : length (from file p) ≡ suc (length (from file (next file p)))
   length_next = rw from_front refl
 
   -- a kept range is its field
-  kept_part : what file p ≡ 1 → take ((next file p).at - p.at) (drop p.at file) ≡ field_at file p.at
+  kept_part : what file p ≡ Fate.Kept → take ((next file p).at - p.at) (drop p.at file) ≡ field_at file p.at
   kept_part e =
       let a : (next file p).at ≡ p.at + length (field_at file p.at) = ap (λ (q : Progress). q.at) (next_kept file p e) in
       let l = front_length (drop p.at file) in
@@ -167,28 +169,28 @@ module _ (file : List ℕ) (p : Progress) (h : p.at < length file) where
       rw n refl
 
   -- it stands first among those that are kept,
-  pub fields_kept : what file p ≡ 1 → kept_fields file (from file p) ≡ field_at file p.at ∷ kept_fields file (from file (next file p))
+  pub fields_kept : what file p ≡ Fate.Kept → kept_fields file (from file p) ≡ field_at file p.at ∷ kept_fields file (from file (next file p))
   unfolding kept_fields
-  fields_kept e = rw (from_front, eq-eqb (what file p) 1 e) (ap (λ (f : List ℕ). f ∷ kept_fields file (from file (next file p))) (kept_part e))
+  fields_kept e = rw (from_front, e) (ap (λ (f : List ℕ). f ∷ kept_fields file (from file (next file p))) (kept_part e))
 
   -- and no other is among them
-  pub fields_other : (what file p ≡ 1 → ⊥) → kept_fields file (from file p) ≡ kept_fields file (from file (next file p))
+  pub fields_other : (what file p ≡ Fate.Kept → ⊥) → kept_fields file (from file p) ≡ kept_fields file (from file (next file p))
   unfolding kept_fields
-  fields_other n = rw (from_front, ne_eqb (what file p) 1 n) refl
+  fields_other n = rw (from_front, keeps-other (what file p) n) refl
 
-  kept_size : what file p ≡ 1 → length (field_at file p.at) ≡ (next file p).at - p.at
+  kept_size : what file p ≡ Fate.Kept → length (field_at file p.at) ≡ (next file p).at - p.at
   kept_size e = let a : (next file p).at ≡ p.at + length (field_at file p.at) = ap (λ (q : Progress). q.at) (next_kept file p e) in omega arith
 
   -- how many, and how many bytes
-  pub count_kept : what file p ≡ 1 → length (kept_fields file (from file p)) ≡ suc (length (kept_fields file (from file (next file p))))
+  pub count_kept : what file p ≡ Fate.Kept → length (kept_fields file (from file p)) ≡ suc (length (kept_fields file (from file (next file p))))
   count_kept e = rw (fields_kept e) refl
 
-  pub size_kept : what file p ≡ 1 → length (laid (kept_fields file (from file p))) ≡ (next file p).at - p.at + length (laid (kept_fields file (from file (next file p))))
+  pub size_kept : what file p ≡ Fate.Kept → length (laid (kept_fields file (from file p))) ≡ (next file p).at - p.at + length (laid (kept_fields file (from file (next file p))))
   unfolding laid
   size_kept e = rw (fields_kept e) (length-append (field_at file p.at) (laid (kept_fields file (from file (next file p)))) ∙ rw (kept_size e) refl)
 
   -- a kept field is written behind those before it,
-  pub put_next : (l : List ℕ) (o : ℕ) → what file p ≡ 1
+  pub put_next : (l : List ℕ) (o : ℕ) → what file p ≡ Fate.Kept
       → sets (sets l o (take ((next file p).at - p.at) (drop p.at file))) (o + ((next file p).at - p.at)) (laid (kept_fields file (from file (next file p))))
       ≡ sets l o (laid (kept_fields file (from file p)))
   unfolding laid
@@ -197,9 +199,9 @@ module _ (file : List ℕ) (p : Progress) (h : p.at < length file) where
 
   -- and every range behind those before it
   pub words_next : (l : List ℕ) (k : ℕ)
-      → sets (sets l k (what file p ∷ p.at ∷ (next file p).at ∷ [])) (k + 3) (range_words (from file (next file p))) ≡ sets l k (range_words (from file p))
+      → sets (sets l k (fate_word (what file p) ∷ p.at ∷ (next file p).at ∷ [])) (k + 3) (range_words (from file (next file p))) ≡ sets l k (range_words (from file p))
   unfolding range_words
-  words_next l k = rw from_front (two_writes (what file p ∷ p.at ∷ (next file p).at ∷ []) (range_words (from file (next file p))) l k (k + 3) refl)
+  words_next l k = rw from_front (two_writes (fate_word (what file p) ∷ p.at ∷ (next file p).at ∷ []) (range_words (from file (next file p))) l k (k + 3) refl)
 
 -- one byte more is copied
 pub copy_next : (file l : List ℕ) (from n at i : ℕ) → i < n → from + n ≤ length file

@@ -5,15 +5,36 @@ ghost use Rattle.std.specs.Prelude.{◌≡◌, ◌+◌, ◌*◌, ◌<◌, ◌≤
 ghost use Rattle.std.proofs.lemmas.List.Edits.{sets};
 ghost use Rattle.fields.specs.Field.{tag_of};
 ghost use Rattle.tourfile.specs.Reader.{not_rising};
-ghost use Rattle.remains.specs.Salvage.{no_clip, is_valid, what, ranges_of, kept_fields, laid, fresh, range_words, salvage_of, salvage_out, salvage_list};
+ghost use Rattle.remains.specs.Salvage.{fate_word, no_clip, is_valid, what, ranges_of, kept_fields, laid, fresh, range_words, salvage_of, salvage_out, salvage_list};
 ghost use Rattle.remains.specs.Steps.{run_end, next, tally_of};
 
 use tourfile::{Fault, Progress};
 
-/// A part of the damaged file: 1 kept, 2 passed over, 3 dropped; its first byte, and the one behind its last.
+/// What is done with a part of the damaged file.
+#[derive(Clone, Copy)]
+pub enum Fate {
+    Kept,
+    Passed,
+    Dropped,
+}
+
+impl Fate {
+    /// Its word in the list.
+    pub fn word(self) -> u64
+        ensures { result ≡ fate_word self }
+    {
+        match self {
+            Fate::Kept => 1,
+            Fate::Passed => 2,
+            Fate::Dropped => 3,
+        }
+    }
+}
+
+/// A part of the damaged file: what is done with it, its first byte, and the one behind its last.
 #[derive(Clone, Copy)]
 pub struct Range {
-    pub what: u64,
+    pub what: Fate,
     pub from: u64,
     pub to: u64,
 }
@@ -24,13 +45,6 @@ pub struct Salvaged {
     pub kept: usize,
     pub bytes: usize,
     pub ranges: usize,
-}
-
-/// What the salvage answers.
-#[derive(Clone, Copy)]
-pub enum SalvageAnswer {
-    Done(Salvaged),
-    Refused(Fault),
 }
 
 /// What a walk through the file counts: commands kept, their bytes, ranges.
@@ -82,8 +96,8 @@ fn is_other(f: &[u8]) -> bool
     (tag == 1) | (tag == 3) | (128 <= tag)
 }
 
-/// What is done at a place: 1 kept, 2 passed over, 3 dropped.
-fn what_at(file: &[u8], p: Progress) -> u64
+/// What is done at a place.
+fn what_at(file: &[u8], p: Progress) -> Fate
     requires { p.at ≤ length file.now }
     ensures { result ≡ what file.now p }
 {
@@ -92,15 +106,15 @@ fn what_at(file: &[u8], p: Progress) -> u64
     let n = fields::piece_size(rest);
     let f = &rest[..n];
     if !is_valid(f) {
-        return 3;
+        return Fate::Dropped;
     }
     if rises(p, f) {
-        return 1;
+        return Fate::Kept;
     }
     if is_other(f) {
-        return 2;
+        return Fate::Passed;
     }
-    3
+    Fate::Dropped
 }
 
 // ---- the walk, one range at a time
@@ -118,7 +132,7 @@ fn run_end(file: &[u8], p: Progress) -> usize
             count: p.count,
             last: p.last,
         };
-        if what_at(file, q) != 3 {
+        if !matches!(what_at(file, q), Fate::Dropped) {
             return at;
         }
         at += 1;
@@ -127,11 +141,11 @@ fn run_end(file: &[u8], p: Progress) -> usize
 }
 
 /// Behind the range that begins at a place: a whole field, or a run of dropped bytes.
-fn next_place(file: &[u8], p: Progress, w: u64) -> Progress
+fn next_place(file: &[u8], p: Progress, w: Fate) -> Progress
     requires { (p.count ≤ p.at) × (p.at < length file.now) × (w ≡ what file.now p) }
     ensures { result ≡ next file.now p }
 {
-    if w == 3 {
+    if let Fate::Dropped = w {
         return Progress {
             at: run_end(file, p),
             count: p.count,
@@ -161,14 +175,11 @@ fn measure(file: &[u8]) -> Tally
         let q = next_place(file, p, w);
         let from = p.at;
         let to = q.at;
-        if w == 1 {
+        if let Fate::Kept = w {
             bytes += to - from;
-            ranges += 1;
-            p = q;
-        } else {
-            ranges += 1;
-            p = q;
         }
+        ranges += 1;
+        p = q;
     }
     Tally {
         kept: p.count,
@@ -207,23 +218,21 @@ fn put_kept(file: &[u8], out: &mut [u8]) -> usize
         let q = next_place(file, p, w);
         let from = p.at;
         let n = q.at - from;
-        if w == 1 {
+        if let Fate::Kept = w {
             copy_part(file, from, n, out, o);
             o += n;
-            p = q;
-        } else {
-            p = q;
         }
+        p = q;
     }
     o
 }
 
 /// Writes one range.
-fn put_range(list: &mut [u64], at: usize, what: u64, from: u64, to: u64)
+fn put_range(list: &mut [u64], at: usize, what: Fate, from: u64, to: u64)
     requires { at + 3 ≤ length list.old }
-    ensures { list.new ≡ sets list.old at (what ∷ from ∷ to ∷ []) }
+    ensures { list.new ≡ sets list.old at (fate_word what ∷ from ∷ to ∷ []) }
 {
-    list[at] = what;
+    list[at] = what.word();
     list[at + 1] = from;
     list[at + 2] = to;
 }
@@ -261,7 +270,7 @@ fn put_fresh(file: &[u8], out: &mut [u8], kept: usize)
 }
 
 /// Salvages a damaged tour: the fresh file at the output's front, the ranges at the list's, or why neither.
-pub fn salvage(file: &[u8], out: &mut [u8], list: &mut [u64]) -> SalvageAnswer
+pub fn salvage(file: &[u8], out: &mut [u8], list: &mut [u64]) -> Result<Salvaged, Fault>
     ensures value { result ≡ salvage_of file.now (length out.old) (length list.old) }
     ensures out_after { out.new ≡ salvage_out file.now out.old (length list.old) }
     ensures list_after { list.new ≡ salvage_list file.now (length out.old) list.old }
@@ -271,20 +280,20 @@ pub fn salvage(file: &[u8], out: &mut [u8], list: &mut [u64]) -> SalvageAnswer
     let ranges = t.ranges;
     let body = t.bytes;
     if 4096 < kept {
-        return SalvageAnswer::Refused(Fault::TooMany);
+        return Err(Fault::TooMany);
     }
     if out.len() < 10 {
-        return SalvageAnswer::Refused(Fault::OutputTooShort);
+        return Err(Fault::OutputTooShort);
     }
     if out.len() - 10 < body {
-        return SalvageAnswer::Refused(Fault::OutputTooShort);
+        return Err(Fault::OutputTooShort);
     }
     if list.len() / 3 < ranges {
-        return SalvageAnswer::Refused(Fault::ListTooShort);
+        return Err(Fault::ListTooShort);
     }
     put_fresh(file, out, kept);
     put_ranges(file, list);
-    SalvageAnswer::Done(Salvaged {
+    Ok(Salvaged {
         kept,
         bytes: 10 + body,
         ranges,

@@ -7,23 +7,24 @@ use borrow.Author.Tests.{le-ltb}
 use lib.ListN.{length, take}
 use Rattle.roundtrip.proofs.Calls.{take_front}
 use Rattle.remains.specs.declared.Salvaged.{Salvaged}
-use Rattle.remains.specs.declared.SalvageAnswer.{SalvageAnswer}
+use Rattle.remains.specs.Salvage.{SalvageAnswer}
 use Rattle.remains.specs.Salvage.{ranges_of, kept_fields, fresh, salvage_of, gives, refuses, says_salvage, left_by, salvage_out}
+use Rattle.std.specs.Prelude.{Ok, Err}
 use Rattle.remains.proofs.Fresh.{Done, done_salvage}
 
 -- what says how many is done,
-pub says_done : (a : SalvageAnswer) (k b r : ℕ) → says_salvage a ≡ gives k b r → a ≡ SalvageAnswer.Done (record { kept = k; bytes = b; ranges = r })
-says_done (SalvageAnswer.Done t) k b r e =
+pub says_done : (a : SalvageAnswer) (k b r : ℕ) → says_salvage a ≡ gives k b r → a ≡ Ok (record { kept = k; bytes = b; ranges = r })
+says_done (Ok t) k b r e =
     let x : t.kept ≡ k = cc in
     let y : t.bytes ≡ b = cc in
     let z : t.ranges ≡ r = cc in
-    ap SalvageAnswer.Done (λ i. record { kept = x i; bytes = y i; ranges = z i })
-says_done (SalvageAnswer.Refused x) k b r e = let z : ◌≡◌ {A = ℕ} 0 1 = cc in absurd (omega arith)
+    ap Ok (λ i. record { kept = x i; bytes = y i; ranges = z i })
+says_done (Err x) k b r e = let z : ◌≡◌ {A = ℕ} 0 1 = cc in absurd (omega arith)
 
 -- and what says a fault leaves a store
 pub says_left : (a : SalvageAnswer) (number : ℕ) (done store : List ℕ) → says_salvage a ≡ refuses number → left_by a done store ≡ store
-says_left (SalvageAnswer.Done t) number done store e = let z : ◌≡◌ {A = ℕ} 0 1 = cc in absurd (omega arith)
-says_left (SalvageAnswer.Refused x) number done store e = refl
+says_left (Ok t) number done store e = let z : ◌≡◌ {A = ℕ} 0 1 = cc in absurd (omega arith)
+says_left (Err x) number done store e = refl
 
 -- a salvage that says how many is done, and one that is done says so
 module _ (file : List ℕ) (room list k b r : ℕ) where

@@ -4,6 +4,7 @@ use mathlib.Core.List.{List, [], ◌∷◌}
 use mathlib.Core.Bool.{Bool, true, false, ◌&&◌, cond}
 use Rattle.counts.proofs.Truth.{and_false_r}
 use Rattle.remains.specs.declared.Range.{Range}
+use Rattle.remains.specs.declared.Fate.{Fate}
 use Rattle.remains.specs.Salvage.{before, joined, ranges_of}
 use Rattle.salvaged.specs.Salvaged.{is_dropped, apart, Apart}
 
@@ -14,7 +15,7 @@ before_apart r [] h = rw (and_false_r (is_dropped r) refl) refl
 before_apart r (q ∷ rs) h = go (is_dropped r) (is_dropped q) refl refl
   where
     go : (a b : Bool) → is_dropped r ≡ a → is_dropped q ≡ b
-        → apart (cond (a && b) (record { what = 3; from = r.from; to = q.to } ∷ rs) (r ∷ q ∷ rs)) ≡ true
+        → apart (cond (a && b) (record { what = Fate.Dropped; from = r.from; to = q.to } ∷ rs) (r ∷ q ∷ rs)) ≡ true
     go true true e d = rw d at h
     go true false e d = rw (e, d) (rw d at h)
     go false b e d = rw e h

@@ -22,6 +22,8 @@ use Rattle.roundtrip.proofs.Calls.{says_done}
 use Rattle.remains.specs.Salvage.{field_at, what, ranges_of, kept_fields, fresh}
 use Rattle.remains.specs.Steps.{next}
 use Rattle.remains.proofs.Runs.{what_kept, what_passed, next_field}
+use Rattle.remains.specs.declared.Fate.{Fate}
+use Rattle.remains.proofs.Fates.{drops-other}
 use Rattle.remains.proofs.Walk.{from, from_start, from_none, from_front, length_next, fields_kept, fields_other}
 use Rattle.salvaged.specs.Salvaged.{is_dropped, commands_in, Undamaged, UndamagedDone}
 use Rattle.salvaged.proofs.Answers.{salvage_says}
@@ -47,16 +49,16 @@ module _ (file : List ℕ) where
     abbrev f : List ℕ
     f = field_at file p.at
 
-    pub is_kept_law : tag_of f ≡ 2 → what file p ≡ 1
+    pub is_kept_law : tag_of f ≡ 2 → what file p ≡ Fate.Kept
     is_kept_law t = what_kept file p (stands_kept clips p more f q t)
 
-    pub is_passed_law : (tag_of f ≡ 2 → ⊥) → what file p ≡ 2
+    pub is_passed_law : (tag_of f ≡ 2 → ⊥) → what file p ≡ Fate.Passed
     is_passed_law t = what_passed file p (not_kept p f t) (stands_passed clips p more f q t)
 
-    not_dropped : what file p ≡ 3 → ⊥
+    not_dropped : what file p ≡ Fate.Dropped → ⊥
     not_dropped e =
-        ⊎_elim (λ (b : eqb (tag_of f) 2 ≡ true). let w = is_kept_law (eqb-true (tag_of f) 2 b) in omega arith)
-        (λ (b : eqb (tag_of f) 2 ≡ false). let w = is_passed_law (eqb-false (tag_of f) 2 b) in omega arith) (two_ways (eqb (tag_of f) 2))
+        ⊎_elim (λ (b : eqb (tag_of f) 2 ≡ true). let w = is_kept_law (eqb-true (tag_of f) 2 b) in cc)
+        (λ (b : eqb (tag_of f) 2 ≡ false). let w = is_passed_law (eqb-false (tag_of f) 2 b) in cc) (two_ways (eqb (tag_of f) 2))
 
     -- the salvage goes where the reader goes
     pub same_next : next file p ≡ behind p f
@@ -71,14 +73,14 @@ module _ (file : List ℕ) where
         other : eqb (tag_of f) 2 ≡ false → kept_fields file (from file p) ≡ commands_in (f ∷ fields_of (drop (behind p f).at file))
         other t =
             let w = is_passed_law (eqb-false (tag_of f) 2 t) in
-            let n : what file p ≡ 1 → ⊥ = λ z. omega arith in
+            let n : what file p ≡ Fate.Kept → ⊥ = λ z. cc in
             rw (fields_other file p h n, same_next, t) ih
 
     whole_some : Whole (behind p f) → Whole p
     whole_some ih = record {
       fields = fields_step ih.fields;
       ranges = rw (length_next file p h, same_next, fields_here file p h) (ap suc ih.ranges);
-      none = rw (from_front file p h, ne_eqb (what file p) 3 not_dropped, same_next) ih.none;
+      none = rw (from_front file p h, drops-other (what file p) not_dropped, same_next) ih.none;
     }
 
 -- where nothing has a fault there are at most 4,096 commands

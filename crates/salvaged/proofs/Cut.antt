@@ -22,6 +22,7 @@ use Rattle.roundtrip.proofs.Calls.{says_done}
 use Rattle.remains.specs.Salvage.{field_at, what, kept_fields}
 use Rattle.remains.specs.Steps.{next}
 use Rattle.remains.proofs.Runs.{field_within}
+use Rattle.remains.specs.declared.Fate.{Fate}
 use Rattle.remains.proofs.Walk.{from, from_start, fields_kept, fields_other}
 use Rattle.salvaged.specs.Salvaged.{commands_before, CutKeeps}
 use Rattle.salvaged.proofs.Accepted.{fields_here, field_by_field}
@@ -99,7 +100,7 @@ module _ (file : List ℕ) (cut : ℕ) where
       other : eqb (tag_of f) 2 ≡ false → Begins p p.at (f ∷ later)
       other t =
           let k = is_passed_law rest clips p more there seen (rw same (eqb-false (tag_of f) 2 t)) in
-          let n : what rest p ≡ 1 → ⊥ = λ z. omega arith in
+          let n : what rest p ≡ Fate.Kept → ⊥ = λ z. cc in
           rw (le-leb (p.at + length f) cut l, t, fields_other rest p there n, fields_next) ih
 
     here_some : Here (behind p f) → Here p

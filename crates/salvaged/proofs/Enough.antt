@@ -14,10 +14,12 @@ use Rattle.fields.specs.Field.{is_whole, tag_of}
 use Rattle.tourfile.specs.declared.Progress.{Progress}
 use Rattle.tourfile.specs.Reader.{start}
 use Rattle.tourfile.proofs.Turns.{behind_at}
-use Rattle.remains.specs.Salvage.{is_valid, is_passed, field_at, what, steps, ranges_of, kept_fields, laid, fresh}
+use Rattle.remains.specs.Salvage.{keeps, drops, is_valid, is_passed, field_at, what, steps, ranges_of, kept_fields, laid, fresh}
 use Rattle.remains.specs.Steps.{next}
 use Rattle.remains.proofs.Runs.{kept_what, passed_what, next_at, next_field}
 use Rattle.remains.proofs.Walk.{from, from_start, from_none, from_front, length_next, fields_other, size_kept}
+use Rattle.remains.specs.declared.Fate.{Fate}
+use Rattle.remains.proofs.Fates.{keeps-true, keeps-false, drops-false}
 use Rattle.remains.proofs.Fresh.{file_length}
 use Rattle.salvaged.specs.Salvaged.{begins_dropped, apart, Enough}
 use Rattle.salvaged.proofs.Places.{every_place}
@@ -48,17 +50,17 @@ module _ (file : List ℕ) where
       let n = next_at file p h in
       let x = n.0 in
       let y = n.1 in
-      ⊎_elim (λ (e : eqb (what file p) 1 ≡ true). let s = size_kept file p h (eqb-true (what file p) 1 e) in omega arith)
-      (λ (e : eqb (what file p) 1 ≡ false). let s = ap (λ (fs : List (List ℕ)). length (laid fs)) (fields_other file p h (eqb-false (what file p) 1 e)) in omega arith)
-      (two_ways (eqb (what file p) 1))
+      ⊎_elim (λ (e : keeps (what file p) ≡ true). let s = size_kept file p h (keeps-true (what file p) e) in omega arith)
+      (λ (e : keeps (what file p) ≡ false). let s = ap (λ (fs : List (List ℕ)). length (laid fs)) (fields_other file p h (keeps-false (what file p) e)) in omega arith)
+      (two_ways (keeps (what file p)))
 
   -- ---- a field is a range of three bytes at least, and between two runs of dropped bytes stands one
 
-  field_long : (p : Progress) → p.at < length file → (what file p ≡ 3 → ⊥) → p.at + 3 ≤ (next file p).at
+  field_long : (p : Progress) → p.at < length file → (what file p ≡ Fate.Dropped → ⊥) → p.at + 3 ≤ (next file p).at
   field_long p h n =
       let w : is_whole (field_at file p.at) ≡ true =
-      ⊎_elim (λ (e : eqb (what file p) 1 ≡ true). kept_whole p (field_at file p.at) (kept_what file p (eqb-true (what file p) 1 e)))
-      (λ (e : eqb (what file p) 1 ≡ false). passed_whole (field_at file p.at) (passed_what file p (eqb-false (what file p) 1 e) n)) (two_ways (eqb (what file p) 1)) in
+      ⊎_elim (λ (e : keeps (what file p) ≡ true). kept_whole p (field_at file p.at) (kept_what file p (keeps-true (what file p) e)))
+      (λ (e : keeps (what file p) ≡ false). passed_whole (field_at file p.at) (passed_what file p (keeps-false (what file p) e) n)) (two_ways (keeps (what file p))) in
       let l = whole_long (field_at file p.at) w in
       let b = behind_at p (field_at file p.at) in
       rw (next_field file p n) (omega arith)
@@ -71,12 +73,12 @@ module _ (file : List ℕ) where
   few_none p h = let e = ap length (from_none file p h) in record { any = omega arith; field = λ b. omega arith }
 
   few_some : (p : Progress) → p.at < length file → Few (next file p) → Few p
-  few_some p h ih = ⊎_elim run other (two_ways (eqb (what file p) 3))
+  few_some p h ih = ⊎_elim run other (two_ways (drops (what file p)))
     where
       -- nothing is dropped behind a run
-      run : eqb (what file p) 3 ≡ true → Few p
+      run : drops (what file p) ≡ true → Few p
       run e =
-          let a : not (eqb (what file p) 3 && begins_dropped (from file (next file p))) && apart (from file (next file p)) ≡ true =
+          let a : not (drops (what file p) && begins_dropped (from file (next file p))) && apart (from file (next file p)) ≡ true =
           rw (from_front file p h) at (joined_apart (steps (length file) file p)) in
           let b : not (begins_dropped (from file (next file p))) && apart (from file (next file p)) ≡ true = rw e at a in
           let f = ih.field (not_true (begins_dropped (from file (next file p))) (and_l _ (apart (from file (next file p))) b)) in
@@ -86,9 +88,9 @@ module _ (file : List ℕ) where
           let y = n.1 in
           record { any = omega arith; field = λ d. absurd (never (sym e ∙ rw (from_front file p h) at d)) }
 
-      other : eqb (what file p) 3 ≡ false → Few p
+      other : drops (what file p) ≡ false → Few p
       other e =
-          let f = field_long p h (eqb-false (what file p) 3 e) in
+          let f = field_long p h (drops-false (what file p) e) in
           let m = ih.any in
           let l = length_next file p h in
           let y = (next_at file p h).1 in

@@ -15,8 +15,9 @@ use Rattle.tourfile.specs.Reader.{start, not_rising}
 use Rattle.tourfile.specs.Writer.{version_bytes, last_bytes}
 use Rattle.roundtrip.proofs.Front.{front_field}
 use Rattle.roundtrip.proofs.Written.{version_field, fields_last}
-use Rattle.remains.specs.Salvage.{is_valid, is_kept, field_at, what, ranges_of, kept_fields, laid, file_with, fresh}
+use Rattle.remains.specs.Salvage.{keeps, is_valid, is_kept, field_at, what, ranges_of, kept_fields, laid, file_with, fresh}
 use Rattle.remains.specs.Steps.{next}
+use Rattle.remains.proofs.Fates.{keeps-true, keeps-false}
 use Rattle.remains.proofs.Runs.{kept_what, next_kept, next_other}
 use Rattle.remains.proofs.Walk.{from, from_start, from_none, fields_kept, fields_other}
 use Rattle.salvaged.proofs.Places.{every_place}
@@ -47,11 +48,11 @@ module _ (file : List ℕ) where
   rest_none p h = rw (from_none file p h) tt
 
   rest_some : (p : Progress) → p.at < length file → Rest (next file p) → Rest p
-  rest_some p h ih = ⊎_elim command other (two_ways (eqb (what file p) 1))
+  rest_some p h ih = ⊎_elim command other (two_ways (keeps (what file p)))
     where
-      command : eqb (what file p) 1 ≡ true → Rest p
+      command : keeps (what file p) ≡ true → Rest p
       command e =
-          let w = eqb-true (what file p) 1 e in
+          let w = keeps-true (what file p) e in
           let k = kept_what file p w in
           let n = next_kept file p w in
           let c : (next file p).count ≡ p.count + 1 = ap (λ (q : Progress). q.count) n in
@@ -62,8 +63,8 @@ module _ (file : List ℕ) where
             kept_same (kept_fields file (from file (next file p))) c l ih,
           )
 
-      other : eqb (what file p) 1 ≡ false → Rest p
-      other e = let n = eqb-false (what file p) 1 e in let s = next_other file p n in rw (fields_other file p h n) (kept_same (kept_fields file (from file (next file p))) s.0 s.1 ih)
+      other : keeps (what file p) ≡ false → Rest p
+      other e = let n = keeps-false (what file p) e in let s = next_other file p n in rw (fields_other file p h n) (kept_same (kept_fields file (from file (next file p))) s.0 s.1 ih)
 
   pub all_kept : Kept 0 0 (kept_fields file (ranges_of file))
   all_kept = rw (from_start file) at (every_place file Rest rest_none rest_some start)

@@ -8,7 +8,7 @@ use Rattle.tourfile.specs.Answer.{says_tour, gives as gives_tour}
 use Rattle.tourfile.specs.Reader.{read_of, row_in, read_into}
 use Rattle.tourfile.specs.Writer.{records_of}
 use Rattle.remains.specs.declared.Range.{Range}
-use Rattle.remains.specs.Salvage.{dropped, ranges_of, kept_fields, fresh, salvage_of, SaysSalvage, gives, refuses, says_salvage, salvage_out, salvage_list}
+use Rattle.remains.specs.Salvage.{drops, ranges_of, kept_fields, fresh, salvage_of, SaysSalvage, gives, refuses, says_salvage, salvage_out, salvage_list}
 
 -- ranges go from a to e without gap or overlap, in order, none empty
 abbrev pub Covers : ℕ → List Range → ℕ → Type 0
@@ -21,7 +21,7 @@ Covered = (file : List ℕ) → Covers 0 (ranges_of file) (length file)
 
 -- no two dropped ones stand side by side
 abbrev pub is_dropped : Range → Bool
-is_dropped r = eqb r.what dropped
+is_dropped r = drops r.what
 
 abbrev pub begins_dropped : List Range → Bool
 begins_dropped [] = false

@@ -8,8 +8,10 @@ use Rattle.tourfile.specs.declared.Progress.{Progress}
 use Rattle.remains.specs.Salvage.{what, ranges_of, kept_fields, laid}
 use Rattle.remains.specs.Steps.{next}
 use Rattle.remains.proofs.Runs.{next_at, next_kept, next_other, next_inside}
+use Rattle.remains.specs.declared.Fate.{Fate}
 use Rattle.remains.proofs.Walk.{from_start, from_none, length_next, fields_other, count_kept, size_kept}
 use Rattle.remains.proofs.measure.Goals as goal
+use Rattle.remains.proofs.measure.Goals.{in-Kept, in_default}
 
 pub loop-p-init : goal.loop-p-init
 loop-p-init c =
@@ -52,47 +54,6 @@ overflow_add-ranges c =
     let b = l.invariant.2 in
     omega arith
 
-pub loop-p-smaller-then-w-eq1 : goal.loop-p-smaller-then-w-eq1
-loop-p-smaller-then-w-eq1 c =
-    let a = c.args in
-    let l = c.loop-p in
-    let h = c.loop-p-test.true in
-    let e = c.next_place-q.ensures in
-    let n = next_at a.file.now l.p h in
-    let x = n.0 in
-    let y = n.1 in
-    rw e (omega arith)
-
-pub loop-p-preserved-then-w-eq1 : goal.loop-p-preserved-then-w-eq1
-loop-p-preserved-then-w-eq1 c =
-    let a = c.args in
-    let l = c.loop-p in
-    let h = c.loop-p-test.true in
-    let e = c.next_place-q.ensures in
-    let w = (sym c.what_at-w.ensures ∙ c.if-w-eq1.true) in
-    let n = next_at a.file.now l.p h in
-    let x = n.0 in
-    let y = n.1 in
-    let b = l.invariant.1 in
-    let r = l.invariant.2 in
-    let k = count_kept a.file.now l.p h w in
-    let z = size_kept a.file.now l.p h w in
-    let m = length_next a.file.now l.p h in
-    let q : (next a.file.now l.p).count ≡ l.p.count + 1 = ap (λ (q : Progress). q.count) (next_kept a.file.now l.p w) in
-    let i = l.invariant.3 in
-    let j = l.invariant.4 in
-    let t = l.invariant.5 in
-    rw e (next_inside a.file.now l.p h l.invariant.0, omega arith, omega arith, omega arith, omega arith, omega arith)
-
-pub overflow_add-ranges-else-w-eq1 : goal.overflow_add-ranges-else-w-eq1
-overflow_add-ranges-else-w-eq1 c =
-    let a = c.args in
-    let l = c.loop-p in
-    let h = c.loop-p-test.true in
-    let e = c.next_place-q.ensures in
-    let b = l.invariant.2 in
-    omega arith
-
 pub loop-p-smaller : goal.loop-p-smaller
 loop-p-smaller c =
     let a = c.args in
@@ -110,18 +71,34 @@ loop-p-preserved c =
     let l = c.loop-p in
     let h = c.loop-p-test.true in
     let e = c.next_place-q.ensures in
-    let w : what a.file.now l.p ≡ 1 → ⊥ = (λ z. c.if-w-eq1.false (c.what_at-w.ensures ∙ z)) in
     let n = next_at a.file.now l.p h in
     let x = n.0 in
     let y = n.1 in
     let b = l.invariant.1 in
     let r = l.invariant.2 in
-    let f = fields_other a.file.now l.p h w in
     let m = length_next a.file.now l.p h in
-    let q = (next_other a.file.now l.p w).0 in
-    let i = rw f at l.invariant.3 in
+    let i = l.invariant.3 in
+    let j = l.invariant.4 in
     let t = l.invariant.5 in
-    rw e (next_inside a.file.now l.p h l.invariant.0, omega arith, omega arith, omega arith, rw f at l.invariant.4, omega arith)
+    let inside = next_inside a.file.now l.p h l.invariant.0 in
+    elim c.match-w.branch [
+      in-Kept v ↦
+        let w = sym c.what_at-w.ensures ∙ v.in-Kept.is in
+        let k = count_kept a.file.now l.p h w in
+        let z = size_kept a.file.now l.p h w in
+        let q : (next a.file.now l.p).count ≡ l.p.count + 1 = ap (λ (q : Progress). q.count) (next_kept a.file.now l.p w) in
+        let g = v.bytes-is in
+        let u : c.next_place-q.result.at ≡ (next a.file.now l.p).at = ap (λ (q : Progress). q.at) e in
+        rw e (inside, omega arith, omega arith, omega arith, omega arith, omega arith)
+      | in_default v ↦
+        let w : what a.file.now l.p ≡ Fate.Kept → ⊥ = (λ z. v.in_default.not-Kept (c.what_at-w.ensures ∙ z)) in
+        let f = fields_other a.file.now l.p h w in
+        let q = (next_other a.file.now l.p w).0 in
+        let i = rw f at l.invariant.3 in
+        let j = rw f at l.invariant.4 in
+        let g = v.bytes-is in
+        rw e (inside, omega arith, omega arith, omega arith, omega arith, omega arith)
+    ]
 
 pub returns : goal.returns
 unfolding kept_fields laid

@@ -36,7 +36,7 @@ copy_part-requires c =
     let n = next_at a.file.now l.p h in
     let x = n.0 in
     let y = n.1 in
-    let w = sym c.what_at-w.ensures ∙ c.if-w-eq1.true in
+    let w = sym c.what_at-w.ensures ∙ c.in-Kept.is in
     let z = size_kept a.file.now l.p h w in
     let r = c.requires in
     let i = l.invariant.1 in
@@ -52,36 +52,11 @@ overflow_add-o c =
     let n = next_at a.file.now l.p h in
     let x = n.0 in
     let y = n.1 in
-    let w = sym c.what_at-w.ensures ∙ c.if-w-eq1.true in
+    let w = sym c.what_at-w.ensures ∙ c.in-Kept.is in
     let z = size_kept a.file.now l.p h w in
     let r = c.requires in
     let j = l.invariant.2 in
     rw e (omega arith)
-
-pub loop-p-smaller-then-w-eq1 : goal.loop-p-smaller-then-w-eq1
-loop-p-smaller-then-w-eq1 c =
-    let a = c.args in
-    let l = c.loop-p in
-    let h = c.loop-p-test.true in
-    let e = c.next_place-q.ensures in
-    let n = next_at a.file.now l.p h in
-    let x = n.0 in
-    let y = n.1 in
-    rw e (omega arith)
-
-pub loop-p-preserved-then-w-eq1 : goal.loop-p-preserved-then-w-eq1
-loop-p-preserved-then-w-eq1 c =
-    let a = c.args in
-    let l = c.loop-p in
-    let h = c.loop-p-test.true in
-    let e = c.next_place-q.ensures in
-    let n = next_at a.file.now l.p h in
-    let x = n.0 in
-    let y = n.1 in
-    let w = sym c.what_at-w.ensures ∙ c.if-w-eq1.true in
-    let z = size_kept a.file.now l.p h w in
-    let j = l.invariant.2 in
-    (rw e (next_inside a.file.now l.p h l.invariant.0), search rules, rw e (omega arith), rw (c.copy_part.ensures, e) (put_next a.file.now l.p h l.out l.o w ∙ l.invariant.3))
 
 pub loop-p-smaller : goal.loop-p-smaller
 loop-p-smaller c =
@@ -94,13 +69,38 @@ loop-p-smaller c =
     let y = n.1 in
     rw e (omega arith)
 
+pub loop-p-smaller-in-Kept : goal.loop-p-smaller-in-Kept
+loop-p-smaller-in-Kept c =
+    let a = c.args in
+    let l = c.loop-p in
+    let h = c.loop-p-test.true in
+    let e = c.next_place-q.ensures in
+    let n = next_at a.file.now l.p h in
+    let x = n.0 in
+    let y = n.1 in
+    rw e (omega arith)
+
+pub loop-p-preserved-in-Kept : goal.loop-p-preserved-in-Kept
+loop-p-preserved-in-Kept c =
+    let a = c.args in
+    let l = c.loop-p in
+    let h = c.loop-p-test.true in
+    let e = c.next_place-q.ensures in
+    let n = next_at a.file.now l.p h in
+    let x = n.0 in
+    let y = n.1 in
+    let w = sym c.what_at-w.ensures ∙ c.in-Kept.is in
+    let z = size_kept a.file.now l.p h w in
+    let j = l.invariant.2 in
+    (rw e (next_inside a.file.now l.p h l.invariant.0), search rules, rw e (omega arith), rw (c.copy_part.ensures, e) (put_next a.file.now l.p h l.out l.o w ∙ l.invariant.3))
+
 pub loop-p-preserved : goal.loop-p-preserved
 loop-p-preserved c =
     let a = c.args in
     let l = c.loop-p in
     let h = c.loop-p-test.true in
     let e = c.next_place-q.ensures in
-    let f = fields_other a.file.now l.p h (λ z. c.if-w-eq1.false (c.what_at-w.ensures ∙ z)) in
+    let f = fields_other a.file.now l.p h (λ z. c.in_default.not-Kept (c.what_at-w.ensures ∙ z)) in
     rw e (next_inside a.file.now l.p h l.invariant.0, l.invariant.1, rw f at l.invariant.2, rw f at l.invariant.3)
 
 pub returns : goal.returns

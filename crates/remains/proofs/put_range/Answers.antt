@@ -13,4 +13,4 @@ pub bounds-list-at-3 : goal.bounds-list-at-3
 bounds-list-at-3 c = simp length-set (omega arith)
 
 pub returns : goal.returns
-returns c = let e : c.args.at + 2 ≡ suc (suc c.args.at) = omega arith in rw (e, add-one c.args.at) refl
+returns c = let e : c.args.at + 2 ≡ suc (suc c.args.at) = omega arith in rw (e, add-one c.args.at, c.word.ensures) refl
