@@ -149,7 +149,7 @@ module _ (mode : ℕ) (clips file blocks : List ℕ) (x : Lent) (long : length x
       go false = refl
 
   tour_promised : (a : TourAnswer) → read_of (clips_of s.bank) file 1280 ≡ a → Promised mode clips file blocks x (tour_ran s file blocks x a).0 (tour_ran s file blocks x a).1
-  tour_promised (Err x) e = reader_promised f at
+  tour_promised (Err r) e = reader_promised r.fault r.place
   tour_promised (Ok n) e = go (leb (frames_in blocks) (2 ^ 62)) refl
     where
       go : (b : Bool) → leb (frames_in blocks) (2 ^ 62) ≡ b

@@ -7,7 +7,8 @@ use borrow.Author.Tests.{le-leb, lt-leb}
 use Rattle.std.specs.Prelude.{Ok, Err}
 use Rattle.fields.specs.Field.{fields_of}
 use Rattle.tourfile.specs.declared.Fault.{Fault}
-use Rattle.tourfile.specs.Answer.{TourAnswer, error_at}
+use Rattle.tourfile.specs.declared.TourError.{TourError}
+use Rattle.tourfile.specs.Answer.{TourAnswer}
 use Rattle.tourfile.specs.Reader.{read_of, rows_in, put_rows}
 use Rattle.session.specs.declared.Session.{Session}
 use Rattle.clips.specs.Own.{clips_of}
@@ -36,8 +37,8 @@ ran_records s n frames x z e k f r w g =
 
 module _ (s : Session) (file blocks : List ℕ) (x : Lent) (a : TourAnswer) where
   -- refused by the reader,
-  pub tour_refused : (f : Fault) (at : ℕ) → a ≡ Err (error_at f at) → (by_reader f at, x) ≡ tour_ran s file blocks x a
-  tour_refused f at e = rw e refl
+  pub tour_refused : (r : TourError) → a ≡ Err r → (by_reader r.fault r.place, x) ≡ tour_ran s file blocks x a
+  tour_refused r e = rw e refl
 
   module _ (n : ℕ) (e : a ≡ Ok n) where
     -- past the clock's end,

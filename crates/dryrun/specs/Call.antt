@@ -5,7 +5,7 @@ use Rattle.counts.specs.declared.SongFrame.{SongFrame}
 use Rattle.counts.specs.declared.Handle.{Handle}
 use Rattle.fields.specs.Field.{fields_of}
 use Rattle.tourfile.specs.declared.Fault.{Fault}
-use Rattle.tourfile.specs.Answer.{TourAnswer, error_at}
+use Rattle.tourfile.specs.Answer.{TourAnswer}
 use Rattle.tourfile.specs.Answer.{fault_number}
 use Rattle.tourfile.specs.Reader.{read_of, rows_in, put_rows}
 use Rattle.transport.specs.declared.TransportState.{TransportState}
@@ -56,7 +56,7 @@ by_reader f at = cond (eqb (fault_number f) (fault_number Fault.ListTooShort)) (
 
 -- the reader's refusals, more than 256 commands, then 4; a refused one leaves every store
 abbrev pub tour_ran : Session → List ℕ → List ℕ → Lent → TourAnswer → DryAnswer × Lent
-tour_ran s file blocks x (Err (error_at f at)) = (by_reader f at, x)
+tour_ran s file blocks x (Err e) = (by_reader e.fault e.place, x)
 tour_ran s file blocks x (Ok n) =
     cond (leb (frames_in blocks) (2 ^ 62))
     (records_ran s n (frames_in blocks) (lent (put_rows x.records 0 (rows_in (clips_of s.bank) (fields_of file))) x.reasons x.queue x.sheet))

@@ -21,7 +21,7 @@ use session::{CLOCK_END, Session};
 use stage::Stage;
 use submission::{ReplayState, Report};
 use timeline::Row;
-use tourfile::{Fault, TourAnswer};
+use tourfile::Fault;
 
 /// What a dry run gives: how many commands the tour has, what the replay did with them, and where the run came to.
 #[derive(Clone, Copy)]
@@ -242,8 +242,8 @@ fn run_tour(
     let words = clips::own_list(bank);
     let a = tourfile::weigh_read(&words, file, 1280);
     match a {
-        TourAnswer::Refused(x, at) => by_reader(x, at),
-        TourAnswer::Done(n) => {
+        Err(e) => by_reader(e.fault, e.place),
+        Ok(n) => {
             let sum = frames_in(blocks);
             if sum.ok {
                 tourfile::fill(&words, file, records);

@@ -6,7 +6,7 @@ use crate::told::{bytes, case, done, read_answer, words, write_answer};
 use crate::writer::write_first;
 use print::text;
 use std::io;
-use tourfile::TourAnswer;
+use tourfile::TourError;
 
 /// What stands between version and count in the first n bytes of an output.
 fn between(rt: &impl Print, out: &[u8], n: usize) -> io::Result<()> {
@@ -26,7 +26,7 @@ pub fn write(rt: &impl Print, hex: &[u8]) -> io::Result<()> {
     let mut second = [9; 5];
     let given = list_of(hex, &mut list);
     let n = done(write_first(&list, given, &mut out));
-    read_first(&out, n, &mut second);
+    let _ = read_first(&out, n, &mut second);
     text(rt, b"field")?;
     between(rt, &out, n)?;
     text(rt, b", record")?;
@@ -65,7 +65,7 @@ fn whether(rt: &impl Print, same: bool, yes: &[u8], no: &[u8]) -> io::Result<()>
 }
 
 /// Writes the first n records of a list.
-fn write_records(list: &[u64], n: usize, out: &mut [u8]) -> TourAnswer {
+fn write_records(list: &[u64], n: usize, out: &mut [u8]) -> Result<usize, TourError> {
     if n > 11 {
         return write_first(list, 55, out);
     }
@@ -147,7 +147,7 @@ fn files(rt: &impl Print) -> io::Result<()> {
 fn longer(rt: &impl Print) -> io::Result<()> {
     let mut out = [0; 31];
     let mut list = [0; 5];
-    write_first(&[0, 5, 1, 0, 0], 5, &mut out);
+    let _ = write_first(&[0, 5, 1, 0, 0], 5, &mut out);
     case(rt, b"Play 5 written to 31 bytes, all 31 read")?;
     read_answer(rt, read_first(&out, 31, &mut list))?;
     text(rt, b"\n")

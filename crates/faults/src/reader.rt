@@ -4,10 +4,10 @@ use crate::table::{Task, file_of, table};
 use crate::told::{case, handle, read_answer};
 use print::{number, text};
 use std::io;
-use tourfile::TourAnswer;
+use tourfile::TourError;
 
 /// Reads the first n bytes of a store, which has as many.
-pub fn read_first(file: &[u8], n: usize, list: &mut [u64]) -> TourAnswer {
+pub fn read_first(file: &[u8], n: usize, list: &mut [u64]) -> Result<usize, TourError> {
     let clips = listed();
     if n > file.len() {
         return tourfile::read_tour(&clips, file, list);
@@ -45,7 +45,7 @@ fn two_listed(rt: &impl Print, i: usize, x: u64, j: usize, y: u64) -> io::Result
 }
 
 /// Reads the file of two Plays into the first n words of a list, which has as many.
-fn read_two(list: &mut [u64], n: usize) -> TourAnswer {
+fn read_two(list: &mut [u64], n: usize) -> Result<usize, TourError> {
     let clips = listed();
     let file = b"\x01\x02\0\x01\0\
                  \x02\x11\0\0\0\0\0\0\0\0\0\x05\0\0\0\0\0\0\0\x01\

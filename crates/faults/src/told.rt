@@ -1,7 +1,7 @@
 //! What the cases are told by: an answer, a handle, the words of a list, the bytes of an output.
 use print::{number, text};
 use std::io;
-use tourfile::{Fault, TourAnswer};
+use tourfile::TourError;
 
 /// The words of a case.
 pub fn case(rt: &impl Print, what: &[u8]) -> io::Result<()> {
@@ -21,35 +21,32 @@ fn many(rt: &impl Print, n: usize, thing: &[u8]) -> io::Result<()> {
 }
 
 /// A fault by its number, and its place.
-fn refused(rt: &impl Print, x: Fault, at: usize) -> io::Result<()> {
+fn refused(rt: &impl Print, e: TourError) -> io::Result<()> {
     text(rt, b"refused ")?;
-    number(rt, x.number() as u64)?;
+    number(rt, e.fault.number() as u64)?;
     text(rt, b" at ")?;
-    number(rt, at as u64)
+    number(rt, e.place as u64)
 }
 
 /// What the reader answered.
-pub fn read_answer(rt: &impl Print, a: TourAnswer) -> io::Result<()> {
+pub fn read_answer(rt: &impl Print, a: Result<usize, TourError>) -> io::Result<()> {
     match a {
-        TourAnswer::Done(n) => many(rt, n, b" record"),
-        TourAnswer::Refused(x, at) => refused(rt, x, at),
+        Ok(n) => many(rt, n, b" record"),
+        Err(e) => refused(rt, e),
     }
 }
 
 /// What the writer answered.
-pub fn write_answer(rt: &impl Print, a: TourAnswer) -> io::Result<()> {
+pub fn write_answer(rt: &impl Print, a: Result<usize, TourError>) -> io::Result<()> {
     match a {
-        TourAnswer::Done(n) => many(rt, n, b" byte"),
-        TourAnswer::Refused(x, at) => refused(rt, x, at),
+        Ok(n) => many(rt, n, b" byte"),
+        Err(e) => refused(rt, e),
     }
 }
 
 /// How many records or bytes there are; none where the call was refused.
-pub fn done(a: TourAnswer) -> usize {
-    match a {
-        TourAnswer::Done(n) => n,
-        TourAnswer::Refused(_, _) => 0,
-    }
+pub fn done(a: Result<usize, TourError>) -> usize {
+    a.unwrap_or(0)
 }
 
 /// A handle at its place in the list.

@@ -5,10 +5,10 @@ use crate::table::{Task, list_of, table};
 use crate::told::{case, write_answer};
 use print::{number, text};
 use std::io;
-use tourfile::TourAnswer;
+use tourfile::TourError;
 
 /// Writes the first n words of a list, which has as many.
-pub fn write_first(records: &[u64], n: usize, out: &mut [u8]) -> TourAnswer {
+pub fn write_first(records: &[u64], n: usize, out: &mut [u8]) -> Result<usize, TourError> {
     let clips = listed();
     if n > records.len() {
         return tourfile::write_tour(&clips, records, out);
@@ -25,7 +25,7 @@ pub fn write(rt: &impl Print, hex: &[u8]) -> io::Result<()> {
 }
 
 /// Writes records to the first n bytes of an output, which has as many.
-fn write_within(records: &[u64], out: &mut [u8], n: usize) -> TourAnswer {
+fn write_within(records: &[u64], out: &mut [u8], n: usize) -> Result<usize, TourError> {
     let clips = listed();
     if n > out.len() {
         return tourfile::write_tour(&clips, records, out);

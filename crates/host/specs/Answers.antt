@@ -9,9 +9,9 @@ use Rattle.session.specs.Answer as rules
 use Rattle.session.specs.WellFormed.{well_formed}
 use Rattle.ring.specs.declared.SampleRing.{SampleRing}
 use Rattle.ring.specs.declared.Drained.{Drained}
-use Rattle.tourfile.specs.Answer.{TourAnswer, error_at}
+use Rattle.tourfile.specs.Answer.{TourAnswer}
 use Rattle.tourfile.specs.Answer.{fault_number, SaysTour, gives, refuses}
-use Rattle.remains.specs.declared.SalvageAnswer.{SalvageAnswer}
+use Rattle.remains.specs.Salvage.{SalvageAnswer}
 use Rattle.remains.specs.Salvage.{SaysSalvage, gives as gives_salvage, refuses as refuses_salvage}
 use Rattle.pump.specs.declared.Pumped.{Pumped}
 use Rattle.submission.specs.declared.Report.{Report}
@@ -179,7 +179,7 @@ toured n x at = record { refusal = n; count = x; place = at }
 
 abbrev pub toured_by : TourAnswer → HostTour
 toured_by (Ok n) = toured 0 n 0
-toured_by (Err (error_at x at)) = toured (fault_number x) 0 at
+toured_by (Err e) = toured (fault_number e.fault) 0 e.place
 
 -- what it says: a number of 0 is how many
 abbrev pub says_tour_by : HostTour → SaysTour
@@ -191,8 +191,8 @@ abbrev pub salvaged : ℕ → ℕ → ℕ → ℕ → HostSalvage
 salvaged n k b r = record { refusal = n; kept = k; bytes = b; ranges = r }
 
 abbrev pub salvaged_by : SalvageAnswer → HostSalvage
-salvaged_by (SalvageAnswer.Done t) = salvaged 0 t.kept t.bytes t.ranges
-salvaged_by (SalvageAnswer.Refused x) = salvaged (fault_number x) 0 0 0
+salvaged_by (Ok t) = salvaged 0 t.kept t.bytes t.ranges
+salvaged_by (Err x) = salvaged (fault_number x) 0 0 0
 
 -- what it says: a number of 0 is done
 abbrev pub says_salvage_by : HostSalvage → SaysSalvage

@@ -14,13 +14,13 @@ use counts::{ClockFrame, Handle, SongFrame};
 use oneshot::Voices;
 use pump::Pumped;
 use ramp::Ramp;
-use remains::SalvageAnswer;
+use remains::Salvaged;
 use ring::{Drained, SampleRing};
 use session::{Answered, Desk, Session};
 use stage::{Counters, Fade, Playhead, Settings, Sound, Stage, Tail};
 use submission::Report;
 use timeline::Submission;
-use tourfile::TourAnswer;
+use tourfile::{Fault, TourError};
 use transport::{At, LoopRange, Transport, TransportState};
 
 /// A clip that is a song. A song has a length.
@@ -842,34 +842,34 @@ fn drained(x: Drained) -> HostDrained
     }
 }
 
-fn toured(a: TourAnswer) -> HostTour
+fn toured(a: Result<usize, TourError>) -> HostTour
     ensures { result ≡ toured_by a }
 {
     match a {
-        TourAnswer::Done(count) => HostTour {
+        Ok(count) => HostTour {
             refusal: 0,
             count,
             place: 0,
         },
-        TourAnswer::Refused(x, place) => HostTour {
-            refusal: x.number(),
+        Err(e) => HostTour {
+            refusal: e.fault.number(),
             count: 0,
-            place,
+            place: e.place,
         },
     }
 }
 
-fn salvaged(a: SalvageAnswer) -> HostSalvage
+fn salvaged(a: Result<Salvaged, Fault>) -> HostSalvage
     ensures { result ≡ salvaged_by a }
 {
     match a {
-        SalvageAnswer::Done(t) => HostSalvage {
+        Ok(t) => HostSalvage {
             refusal: 0,
             kept: t.kept,
             bytes: t.bytes,
             ranges: t.ranges,
         },
-        SalvageAnswer::Refused(x) => HostSalvage {
+        Err(x) => HostSalvage {
             refusal: x.number(),
             kept: 0,
             bytes: 0,

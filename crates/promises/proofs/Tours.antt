@@ -9,7 +9,7 @@ use Rattle.tourfile.specs.Answer.{TourAnswer}
 use Rattle.tourfile.specs.Answer.{fault_number, says_tour}
 use Rattle.tourfile.specs.Reader.{read_of}
 use Rattle.tourfile.specs.Writer.{records_of, write_of}
-use Rattle.remains.specs.declared.SalvageAnswer.{SalvageAnswer}
+use Rattle.remains.specs.Salvage.{SalvageAnswer}
 use Rattle.remains.specs.Salvage.{salvage_of, says_salvage}
 use Rattle.host.specs.Answers.{toured_by, says_tour_by, salvaged_by, says_salvage_by}
 use Rattle.host.specs.Calls.{read_tour_host, write_tour_host, salvage_host}
@@ -35,11 +35,11 @@ number_some Fault.OutputTooShort = refl
 
 toured_says : (a : TourAnswer) → says_tour_by (toured_by a) ≡ says_tour a
 toured_says (Ok n) = refl
-toured_says (Err e) = rw (number_some x) refl
+toured_says (Err e) = rw (number_some e.fault) refl
 
 salvaged_says : (a : SalvageAnswer) → says_salvage_by (salvaged_by a) ≡ says_salvage a
-salvaged_says (SalvageAnswer.Done t) = refl
-salvaged_says (SalvageAnswer.Refused x) = rw (number_some x) refl
+salvaged_says (Ok t) = refl
+salvaged_says (Err x) = rw (number_some x) refl
 
 pub host_tours : HostTours
 unfolding read_tour_host write_tour_host salvage_host

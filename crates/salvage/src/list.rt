@@ -3,18 +3,27 @@ ghost use Rattle.std.specs.Prelude.{◌<◌, ◌≤◌};
 
 use crate::words;
 use print::{column, text};
-use remains::{Range, Salvaged};
+use remains::{Fate, Range, Salvaged};
 use std::io;
 
 /// The words of the most ranges that are listed, 65,536.
 pub const WORDS: usize = 196608;
+
+/// What a word of the list says.
+fn fate(word: u64) -> Fate {
+    match word {
+        1 => Fate::Kept,
+        2 => Fate::Passed,
+        _ => Fate::Dropped,
+    }
+}
 
 /// The i-th range of the list.
 fn range(list: &[u64; WORDS], i: usize) -> Range
     requires { i < 65536 }
 {
     Range {
-        what: list[i * 3],
+        what: fate(list[i * 3]),
         from: list[i * 3 + 1],
         to: list[i * 3 + 2],
     }
@@ -44,13 +53,10 @@ struct Totals {
 impl Totals {
     /// With one range more.
     fn with(mut self, r: Range) -> Totals {
-        if r.what == 2 {
-            self.passed = std::num::wrapping_add_u64(self.passed, 1);
-            return self;
-        }
-        if r.what == 3 {
-            self.dropped = std::num::wrapping_add_u64(self.dropped, size(r));
-            return self;
+        match r.what {
+            Fate::Kept => {}
+            Fate::Passed => self.passed = std::num::wrapping_add_u64(self.passed, 1),
+            Fate::Dropped => self.dropped = std::num::wrapping_add_u64(self.dropped, size(r)),
         }
         self
     }
@@ -59,15 +65,17 @@ impl Totals {
 /// What was done with a range.
 fn done(rt: &impl Print, file: &[u8], r: Range) -> io::Result<()> {
     let f = behind(file, r.from);
-    if r.what == 1 {
-        text(rt, b"  kept         ")?;
-        return words::command(rt, f);
+    match r.what {
+        Fate::Kept => {
+            text(rt, b"  kept         ")?;
+            words::command(rt, f)
+        }
+        Fate::Passed => {
+            text(rt, b"  passed over                          ")?;
+            words::passed(rt, f)
+        }
+        Fate::Dropped => text(rt, b"  dropped"),
     }
-    if r.what == 2 {
-        text(rt, b"  passed over                          ")?;
-        return words::passed(rt, f);
-    }
-    text(rt, b"  dropped")
 }
 
 /// The line of a range.

@@ -15,7 +15,7 @@ mod words;
 
 use fresh::MOST;
 use list::WORDS;
-use remains::{SalvageAnswer, Salvaged};
+use remains::Salvaged;
 use std::io;
 
 /// The most bytes of a fresh file: it has a first and a last field, if the damaged one has neither.
@@ -52,13 +52,12 @@ fn salvage_to(
     out: &mut [u8; OUT],
     list: &mut [u64; WORDS],
 ) -> io::Result<()> {
-    let a = remains::salvage(file, out, list);
-    match a {
-        SalvageAnswer::Refused(x) => {
+    match remains::salvage(file, out, list) {
+        Ok(s) => write(rt, file, fresh, out, list, s),
+        Err(x) => {
             said::refused(rt, damaged, x);
             Ok(())
-        },
-        SalvageAnswer::Done(s) => write(rt, file, fresh, out, list, s),
+        }
     }
 }
 

@@ -9,13 +9,13 @@ use bank::Kind;
 use control::{PerformanceMetrics, PerformanceSnapshot};
 use counts::{Handle, SongFrame};
 use pump::Pumped;
-use remains::SalvageAnswer;
+use remains::Salvaged;
 use ring::{Drained, SampleRing};
 use session::{Answered, Session};
 use stage::Settings;
 use submission::Report;
 use timeline::Submission;
-use tourfile::TourAnswer;
+use tourfile::{Fault, TourError};
 use transport::At;
 
 // ---- what both calls answered
@@ -42,10 +42,10 @@ pub struct PumpTwice(pub Pumped, pub Pumped);
 pub struct DrainTwice(pub Drained, pub Drained);
 
 #[derive(Clone, Copy)]
-pub struct TourTwice(pub TourAnswer, pub TourAnswer);
+pub struct TourTwice(pub Result<usize, TourError>, pub Result<usize, TourError>);
 
 #[derive(Clone, Copy)]
-pub struct SalvageTwice(pub SalvageAnswer, pub SalvageAnswer);
+pub struct SalvageTwice(pub Result<Salvaged, Fault>, pub Result<Salvaged, Fault>);
 
 #[derive(Clone, Copy)]
 pub struct StopTwice(pub Answered<usize>, pub Answered<usize>);

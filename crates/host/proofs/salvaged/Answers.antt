@@ -1,8 +1,8 @@
 -- `salvaged` meets its contract, one answer for each case.
 use Rattle.host.proofs.salvaged.Goals as goal
 
-pub returns-in-Done : goal.returns-in-Done
-returns-in-Done c = simp c.in-Done.is
+pub returns-in-Ok : goal.returns-in-Ok
+returns-in-Ok c = simp c.in-Ok.is
 
-pub returns-in-Refused : goal.returns-in-Refused
-returns-in-Refused c = simp (c.number.ensures, c.in-Refused.is)
+pub returns-in-Err : goal.returns-in-Err
+returns-in-Err c = simp (c.number.ensures, c.in-Err.is)

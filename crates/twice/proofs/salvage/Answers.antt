@@ -2,8 +2,7 @@
 use mathlib.Core.List.{List}
 use Prim.Native.Nat.{ℕ}
 use lib.ListN.{length}
-use Rattle.remains.specs.declared.SalvageAnswer.{SalvageAnswer}
-use Rattle.remains.specs.Salvage.{salvage_of, salvage_out, salvage_list}
+use Rattle.remains.specs.Salvage.{SalvageAnswer, salvage_of, salvage_out, salvage_list}
 use Rattle.twice.proofs.Same.{same₃}
 use Rattle.twice.proofs.salvage.Goals as goal
 
