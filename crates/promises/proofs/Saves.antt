@@ -43,7 +43,6 @@ use Rattle.session.specs.declared.Answered.{Answered}
 use Rattle.control.specs.Capture.{weigh_stop, stop_capture_of}
 use Rattle.control.proofs.Capture.{fine_room, stop_done}
 use Rattle.promises.specs.Tours.{slot_word, slot_words, clips_of, CaptureSaves}
-use Rattle.std.specs.Prelude.{Ok}
 
 -- ---- the session's own list
 
