@@ -36,7 +36,7 @@ fn frames_made(r: SampleRing, size: usize, frames: usize) -> usize
     ensures { result ≡ frames_made size r frames }
 {
     let free = r.free(size);
-    ring::lesser(frames, free / 2)
+    frames.min(free / 2)
 }
 
 /// 1, the ring, 2, then 4 for the frames made.
@@ -201,7 +201,7 @@ fn round(
     ensures { MadeInto settings bank stage queued queue.now pool.now store.old at frames result store.new }
 {
     let size = store.len();
-    let before = ring::lesser(frames, (size - at) / 2);
+    let before = frames.min((size - at) / 2);
     let first = straight(
         settings,
         bank,

@@ -1,21 +1,18 @@
--- The loops over the callback's block: the samples that it takes, then silence. Assumes nothing.
+-- The callback's block: the samples that it takes, then silence. Assumes nothing.
 use mathlib.Core.Path.{◌≡◌, refl, sym, ap, ◌∙◌}
-use mathlib.Core.List.{List, [], ◌∷◌, ◌++◌, append_assoc, append-nil}
-use Prim.Native.Nat.{ℕ, zero, suc, ◌+◌, ◌-◌, ◌≤◌, ◌<◌}
+use mathlib.Core.List.{List, [], ◌∷◌, ◌++◌, append-nil}
+use Prim.Native.Nat.{ℕ, ◌+◌, ◌-◌, ◌≤◌, ◌<◌}
 use native.Mathlib.Omega.{arith}
 use native.Mathlib.Numerals.{add-one}
-use lib.ListN.{length, get_or, take, set, replicate, length-set}
+use borrow.Rule.Slice.PartMut.{put_mid}
+use lib.ListN.{length, get_or, take, set, replicate, length-set, length-replicate, drop_of_length-le}
 use lib.Seq.{take-suc-set, take_all}
 use lib.Ieee.{Float, nan}
 use Rattle.ramp.specs.Number.{zero32}
+use Rattle.std.proofs.lemmas.Slice.{put_mid-paste}
 use Rattle.bank.proofs.Places.{get_d_any}
 use Rattle.ring.specs.Ring.{place_at, from}
 use Rattle.ring.proofs.Places.{place_lt, place_on}
-
--- one more silent sample
-silence_more : (k : ℕ) → replicate k zero32 ++ (zero32 ∷ []) ≡ replicate (suc k) zero32
-silence_more zero = refl
-silence_more (suc k) = ap (λ (l : List Float). zero32 ∷ l) (silence_more k)
 
 module _ (store : List Float) (h taken n : ℕ) where
   -- i samples of a block of n are taken, and the next one is at a place
@@ -24,13 +21,6 @@ module _ (store : List Float) (h taken n : ℕ) where
     pub size : length out ≡ n
     pub place : at ≡ place_at (length store) h i
     pub sound : take i out ≡ from store h i
-
-  -- i samples of it are written, those past the taken ones silence
-  pub record Silent (out : List Float) (i : ℕ) : Type 0 where
-    pub least : taken ≤ i
-    pub most : i ≤ n
-    pub size : length out ≡ n
-    pub sound : take i out ≡ from store h taken ++ replicate (i - taken) zero32
 
   pub sound_start : (out : List Float) → length out ≡ n → h ≡ place_at (length store) h 0 → Sounding out h 0
   unfolding from
@@ -49,25 +39,11 @@ module _ (store : List Float) (h taken n : ℕ) where
             (ap (λ (x : Float). from store h i ++ (x ∷ [])) (get_d_any store (place_at (length store) h i) d nan (place_lt (length store) h i p)));
       }
 
-  pub silence_start : (out : List Float) (at i : ℕ) → Sounding out at i → taken ≤ i → taken ≤ n → Silent out i
-  silence_start out at i v l t =
-      let e : i ≡ taken = omega (arith, v.most) in
-      let z : i - taken ≡ 0 = omega arith in
-      record { least = l; most = omega arith; size = v.size; sound = v.sound ∙ rw (z, e) (sym (append-nil (from store h taken))) }
-
-  pub silence_turn : (out : List Float) (i : ℕ) → Silent out i → i < n → Silent (set out i zero32) (i + 1)
-  silence_turn out i v l =
-      let e : i + 1 - taken ≡ suc (i - taken) = omega (arith, v.least) in
-      record {
-        least = omega (arith, v.least);
-        most = omega arith;
-        size = length-set out i zero32 ∙ v.size;
-        sound =
-            rw (e, ← silence_more (i - taken), add-one, take-suc-set out i zero32 (omega (arith, v.size)), v.sound)
-            (append_assoc (from store h taken) (replicate (i - taken) zero32) (zero32 ∷ []));
-      }
-
-  pub silence_end : (out : List Float) (i : ℕ) → Silent out i → n ≤ i → out ≡ from store h taken ++ replicate (n - taken) zero32
-  silence_end out i v l =
-      let e : i ≡ n = omega (arith, v.most) in
-      sym (take_all i out (omega (arith, v.size))) ∙ v.sound ∙ ap (λ (j : ℕ). from store h taken ++ replicate (j - taken) zero32) e
+  -- filled with silence after them, it is the block
+  pub silence_end : (out : List Float) (at i : ℕ) → Sounding out at i → taken ≤ i → taken ≤ n → (xs : List Float) → xs ≡ replicate (n - taken) zero32
+      → put_mid taken (length out - taken) out xs ≡ from store h taken ++ replicate (n - taken) zero32
+  silence_end out at i v l t xs e =
+      let z : List Float = replicate (n - taken) zero32 in
+      let a : i ≡ taken = omega (arith, v.most) in
+      put_mid-paste taken (length out - taken) out xs z (n - taken) e (omega (arith, v.size)) (sym (length-replicate (n - taken) zero32))
+      ∙ rw (take_all (n - taken) z (omega (arith, length-replicate (n - taken) zero32)), drop_of_length-le out {i = taken + (n - taken)} (omega (arith, v.size)), append-nil) (ap (λ (l : List Float). l ++ z) (rw a at v.sound))

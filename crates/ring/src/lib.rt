@@ -1,7 +1,7 @@
 //! The ring that the audio callback pulls from: where it stands in its lent store, and what the callback takes.
 #![tactic(auto)]
 
-ghost use Rattle.std.specs.Prelude.{◌≡◌, List, ◌++◌, ◌-◌, ◌<◌, ◌≤◌, min, length, replicate, Float};
+ghost use Rattle.std.specs.Prelude.{◌≡◌, List, ◌++◌, ◌-◌, ◌<◌, ◌≤◌, length, replicate, Float};
 ghost use Rattle.ramp.specs.Number.{zero32};
 ghost use Rattle.ring.specs.declared.Drained.{Drained};
 ghost use Rattle.ring.specs.Ring.{empty_ring, ring_ok, Within, held_of, free_of, place_at, from};
@@ -46,6 +46,7 @@ impl SampleRing {
     }
 
     /// How many samples wait.
+    #[tactic(auto, unfolding(crate::specs::Ring::held_of))]
     pub fn held(self, size: usize) -> usize
         requires { Within size self }
         ensures { result ≡ held_of size self }
@@ -54,6 +55,7 @@ impl SampleRing {
     }
 
     /// How many more fit: one place stays empty.
+    #[tactic(auto, using(crate::proofs::Places::held_lt), unfolding(crate::specs::Ring::free_of))]
     pub fn free(self, size: usize) -> usize
         requires { Within size self }
         ensures { result ≡ free_of size self }
@@ -62,14 +64,8 @@ impl SampleRing {
     }
 }
 
-/// The lesser of two counts.
-pub fn lesser(a: usize, b: usize) -> usize
-    ensures { result ≡ min a b }
-{
-    if a < b { a } else { b }
-}
-
 /// The place so many samples on, round the store's end.
+#[tactic(auto, unfolding(crate::specs::Ring::place_at))]
 pub fn place(size: usize, at: usize, on: usize) -> usize
     requires { (at < size) × (on ≤ size) × (size ≤ 65536) }
     ensures { result ≡ place_at size at on }
@@ -78,6 +74,7 @@ pub fn place(size: usize, at: usize, on: usize) -> usize
 }
 
 /// The next place.
+#[tactic(auto, using(crate::proofs::Places::place_next, crate::proofs::Places::place_straight))]
 fn next(size: usize, at: usize) -> usize
     requires { at < size }
     ensures { result ≡ place_at size at 1 }
@@ -93,16 +90,11 @@ fn pour(store: &[f32], head: usize, taken: usize, out: &mut [f32])
 {
     let size = store.len();
     let mut at = head;
-    let mut i = 0;
-    'sound: while i < taken {
+    for i in 0..taken {
         out[i] = store[at];
         at = next(size, at);
-        i += 1;
     }
-    'silence: while i < out.len() {
-        out[i] = 0.0;
-        i += 1;
-    }
+    out[taken..].fill(0.0);
 }
 
 /// The callback's block: whole frames that wait, and silence for the rest. Refused, it leaves ring and block as they were.
@@ -117,7 +109,7 @@ pub fn drain(r: SampleRing, store: &[f32], out: &mut [f32]) -> Drained
         };
     }
     let waiting = r.held(size);
-    let whole = lesser(out.len() / 2, waiting / 2);
+    let whole = (out.len() / 2).min(waiting / 2);
     let taken = whole * 2;
     let head = r.head;
     pour(store, head, taken, &mut out[..]);

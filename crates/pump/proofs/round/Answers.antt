@@ -6,19 +6,19 @@ use Rattle.pump.proofs.round.Goals as goal
 
 pub straight-first-requires : goal.straight-first-requires
 straight-first-requires c =
-    let l = c.lesser-before.ensures in
+    let l = c.min-before.ensures in
     (pumpable_less _ _ _ _ _ _ _ _ (omega (arith, l)) c.requires.0, omega (arith, l, c.requires.1))
 
 pub returns-then-left-eq0 : goal.returns-then-left-eq0
 returns-then-left-eq0 c =
     let a = c.args in
-    let l = c.lesser-before in
+    let l = c.min-before in
     let all : l.result ≡ a.frames = omega (arith, l.ensures, c.if-left-eq0.true) in
     rw (← all) c.straight-first.ensures
 
 pub over-rest-requires : goal.over-rest-requires
 over-rest-requires c =
-    let l = c.lesser-before.ensures in
+    let l = c.min-before.ensures in
     let some = c.if-left-eq0.false in
     let e = c.straight-first.ensures in
     let size = on_length _ _ _ _ _ _ _ _ _ _ _ e c.requires.0.going.desk in
@@ -36,9 +36,9 @@ joined-requires c =
     let desk = c.requires.0.going.desk in
     let first = on_few _ _ _ _ _ _ _ _ _ _ _ c.straight-first.ensures desk in
     let rest = on_few _ _ _ _ _ _ _ _ _ _ _ c.over-rest.ensures desk in
-    omega (arith, first, rest, c.lesser-before.ensures, c.requires.2, c.requires.3)
+    omega (arith, first, rest, c.min-before.ensures, c.requires.2, c.requires.3)
 
 pub returns : goal.returns
 returns c =
     rw c.joined.ensures
-    (on_joined _ _ _ _ _ _ _ _ _ _ _ c.straight-first.ensures _ _ _ _ _ (omega (arith, c.lesser-before.ensures)) refl c.over-rest.ensures)
+    (on_joined _ _ _ _ _ _ _ _ _ _ _ c.straight-first.ensures _ _ _ _ _ (omega (arith, c.min-before.ensures)) refl c.over-rest.ensures)
