@@ -21,46 +21,7 @@ use transport::At;
 // ---- what both calls answered
 
 #[derive(Clone, Copy)]
-pub struct Twice(pub Answered, pub Answered);
-
-#[derive(Clone, Copy)]
-pub struct LoadTwice(pub Answered<Handle>, pub Answered<Handle>);
-
-#[derive(Clone, Copy)]
-pub struct SubmitTwice(pub Answered<u64>, pub Answered<u64>);
-
-#[derive(Clone, Copy)]
-pub struct ReplayTwice(pub Answered<Report>, pub Answered<Report>);
-
-#[derive(Clone, Copy)]
-pub struct BlockTwice(pub Answered<u64>, pub Answered<u64>);
-
-#[derive(Clone, Copy)]
-pub struct PumpTwice(pub Pumped, pub Pumped);
-
-#[derive(Clone, Copy)]
-pub struct DrainTwice(pub Drained, pub Drained);
-
-#[derive(Clone, Copy)]
-pub struct TourTwice(pub Result<usize, TourError>, pub Result<usize, TourError>);
-
-#[derive(Clone, Copy)]
-pub struct SalvageTwice(pub Result<Salvaged, Fault>, pub Result<Salvaged, Fault>);
-
-#[derive(Clone, Copy)]
-pub struct StopTwice(pub Answered<usize>, pub Answered<usize>);
-
-#[derive(Clone, Copy)]
-pub struct SnapshotTwice(
-    pub Answered<PerformanceSnapshot>,
-    pub Answered<PerformanceSnapshot>,
-);
-
-#[derive(Clone, Copy)]
-pub struct MetricsTwice(
-    pub Answered<PerformanceMetrics>,
-    pub Answered<PerformanceMetrics>,
-);
+pub struct Twice<T>(pub T, pub T);
 
 // ---- the calls that change the bank
 
@@ -76,13 +37,13 @@ pub fn open(
     capture2: &[u64],
     pool2: &mut [f32],
     samples2: &[f32],
-) -> LoadTwice
+) -> Twice<Answered<Handle>>
     requires { (queue.now ≡ queue2.now) × (capture.now ≡ capture2.now) × (pool.old ≡ pool2.old) × (samples.now ≡ samples2.now) }
     ensures { (result.0 ≡ result.1) × (pool.new ≡ pool2.new) }
 {
     let one = clips::open(settings, queue, capture, pool, samples, rate, extent);
     let other = clips::open(settings, queue2, capture2, pool2, samples2, rate, extent);
-    LoadTwice(one, other)
+    Twice(one, other)
 }
 
 pub fn load(
@@ -97,13 +58,13 @@ pub fn load(
     capture2: &[u64],
     pool2: &mut [f32],
     samples2: &[f32],
-) -> LoadTwice
+) -> Twice<Answered<Handle>>
     requires { (queue.now ≡ queue2.now) × (capture.now ≡ capture2.now) × (pool.old ≡ pool2.old) × (samples.now ≡ samples2.now) }
     ensures { (result.0 ≡ result.1) × (pool.new ≡ pool2.new) }
 {
     let one = clips::load(s, queue, capture, pool, samples, kind, rate);
     let other = clips::load(s, queue2, capture2, pool2, samples2, kind, rate);
-    LoadTwice(one, other)
+    Twice(one, other)
 }
 
 pub fn retire(
@@ -113,7 +74,7 @@ pub fn retire(
     h: Handle,
     queue2: &[u64],
     capture2: &[u64],
-) -> Twice
+) -> Twice<Answered<()>>
     requires { (queue.now ≡ queue2.now) × (capture.now ≡ capture2.now) }
     ensures { result.0 ≡ result.1 }
 {
@@ -132,13 +93,13 @@ pub fn submit(
     at: At,
     queue2: &mut [u64],
     capture2: &mut [u64],
-) -> SubmitTwice
+) -> Twice<Answered<u64>>
     requires { (queue.old ≡ queue2.old) × (capture.old ≡ capture2.old) }
     ensures { (result.0 ≡ result.1) × (queue.new ≡ queue2.new) × (capture.new ≡ capture2.new) }
 {
     let one = submission::submit(s, queue, capture, x, at);
     let other = submission::submit(s, queue2, capture2, x, at);
-    SubmitTwice(one, other)
+    Twice(one, other)
 }
 
 pub fn transition(
@@ -149,13 +110,13 @@ pub fn transition(
     at: At,
     queue2: &mut [u64],
     capture2: &mut [u64],
-) -> SubmitTwice
+) -> Twice<Answered<u64>>
     requires { (queue.old ≡ queue2.old) × (capture.old ≡ capture2.old) }
     ensures { (result.0 ≡ result.1) × (queue.new ≡ queue2.new) × (capture.new ≡ capture2.new) }
 {
     let one = submission::transition(s, queue, capture, f, at);
     let other = submission::transition(s, queue2, capture2, f, at);
-    SubmitTwice(one, other)
+    Twice(one, other)
 }
 
 pub fn replay(
@@ -166,13 +127,13 @@ pub fn replay(
     queue2: &mut [u64],
     capture2: &[u64],
     list2: &[u64],
-) -> ReplayTwice
+) -> Twice<Answered<Report>>
     requires { (queue.old ≡ queue2.old) × (capture.now ≡ capture2.now) × (list.now ≡ list2.now) }
     ensures { (result.0 ≡ result.1) × (queue.new ≡ queue2.new) }
 {
     let one = submission::replay(s, queue, capture, list);
     let other = submission::replay(s, queue2, capture2, list2);
-    ReplayTwice(one, other)
+    Twice(one, other)
 }
 
 // ---- the block
@@ -187,13 +148,13 @@ pub fn block(
     capture2: &[u64],
     pool2: &[f32],
     out2: &mut [f32],
-) -> BlockTwice
+) -> Twice<Answered<u64>>
     requires { (queue.now ≡ queue2.now) × (capture.now ≡ capture2.now) × (pool.now ≡ pool2.now) × (out.old ≡ out2.old) }
     ensures { (result.0 ≡ result.1) × (out.new ≡ out2.new) }
 {
     let one = block::block(s, queue, capture, pool, out);
     let other = block::block(s, queue2, capture2, pool2, out2);
-    BlockTwice(one, other)
+    Twice(one, other)
 }
 
 // ---- the ring
@@ -210,13 +171,13 @@ pub fn pump(
     capture2: &[u64],
     pool2: &[f32],
     store2: &mut [f32],
-) -> PumpTwice
+) -> Twice<Pumped>
     requires { (queue.now ≡ queue2.now) × (capture.now ≡ capture2.now) × (pool.now ≡ pool2.now) × (store.old ≡ store2.old) }
     ensures { (result.0 ≡ result.1) × (store.new ≡ store2.new) }
 {
     let one = pump::pump(s, queue, capture, pool, r, store, frames);
     let other = pump::pump(s, queue2, capture2, pool2, r, store2, frames);
-    PumpTwice(one, other)
+    Twice(one, other)
 }
 
 pub fn drain(
@@ -225,13 +186,13 @@ pub fn drain(
     out: &mut [f32],
     store2: &[f32],
     out2: &mut [f32],
-) -> DrainTwice
+) -> Twice<Drained>
     requires { (store.now ≡ store2.now) × (out.old ≡ out2.old) }
     ensures { (result.0 ≡ result.1) × (out.new ≡ out2.new) }
 {
     let one = ring::drain(r, store, out);
     let other = ring::drain(r, store2, out2);
-    DrainTwice(one, other)
+    Twice(one, other)
 }
 
 // ---- the calls around the performance
@@ -242,7 +203,7 @@ pub fn start_capture(
     capture: &[u64],
     queue2: &[u64],
     capture2: &[u64],
-) -> Twice
+) -> Twice<Answered<()>>
     requires { (queue.now ≡ queue2.now) × (capture.now ≡ capture2.now) }
     ensures { result.0 ≡ result.1 }
 {
@@ -259,13 +220,13 @@ pub fn stop_capture(
     queue2: &[u64],
     capture2: &[u64],
     list2: &mut [u64],
-) -> StopTwice
+) -> Twice<Answered<usize>>
     requires { (queue.now ≡ queue2.now) × (capture.now ≡ capture2.now) × (list.old ≡ list2.old) }
     ensures { (result.0 ≡ result.1) × (list.new ≡ list2.new) }
 {
     let one = control::stop_capture(s, queue, capture, list);
     let other = control::stop_capture(s, queue2, capture2, list2);
-    StopTwice(one, other)
+    Twice(one, other)
 }
 
 pub fn snapshot(
@@ -274,13 +235,13 @@ pub fn snapshot(
     capture: &[u64],
     queue2: &[u64],
     capture2: &[u64],
-) -> SnapshotTwice
+) -> Twice<Answered<PerformanceSnapshot>>
     requires { (queue.now ≡ queue2.now) × (capture.now ≡ capture2.now) }
     ensures { result.0 ≡ result.1 }
 {
     let one = control::snapshot(s, queue, capture);
     let other = control::snapshot(s, queue2, capture2);
-    SnapshotTwice(one, other)
+    Twice(one, other)
 }
 
 pub fn apply_snapshot(
@@ -290,7 +251,7 @@ pub fn apply_snapshot(
     x: PerformanceSnapshot,
     queue2: &[u64],
     capture2: &[u64],
-) -> Twice
+) -> Twice<Answered<()>>
     requires { (queue.now ≡ queue2.now) × (capture.now ≡ capture2.now) }
     ensures { result.0 ≡ result.1 }
 {
@@ -305,13 +266,13 @@ pub fn metrics(
     capture: &[u64],
     queue2: &[u64],
     capture2: &[u64],
-) -> MetricsTwice
+) -> Twice<Answered<PerformanceMetrics>>
     requires { (queue.now ≡ queue2.now) × (capture.now ≡ capture2.now) }
     ensures { result.0 ≡ result.1 }
 {
     let one = control::metrics(s, queue, capture);
     let other = control::metrics(s, queue2, capture2);
-    MetricsTwice(one, other)
+    Twice(one, other)
 }
 
 // ---- a tour's file
@@ -323,13 +284,13 @@ pub fn read_tour(
     clips2: &[u64; 32],
     file2: &[u8],
     list2: &mut [u64],
-) -> TourTwice
+) -> Twice<Result<usize, TourError>>
     requires { (clips.now ≡ clips2.now) × (file.now ≡ file2.now) × (list.old ≡ list2.old) }
     ensures { (result.0 ≡ result.1) × (list.new ≡ list2.new) }
 {
     let one = tourfile::read_tour(clips, file, list);
     let other = tourfile::read_tour(clips2, file2, list2);
-    TourTwice(one, other)
+    Twice(one, other)
 }
 
 pub fn write_tour(
@@ -339,13 +300,13 @@ pub fn write_tour(
     clips2: &[u64; 32],
     records2: &[u64],
     out2: &mut [u8],
-) -> TourTwice
+) -> Twice<Result<usize, TourError>>
     requires { (clips.now ≡ clips2.now) × (records.now ≡ records2.now) × (out.old ≡ out2.old) }
     ensures { (result.0 ≡ result.1) × (out.new ≡ out2.new) }
 {
     let one = tourfile::write_tour(clips, records, out);
     let other = tourfile::write_tour(clips2, records2, out2);
-    TourTwice(one, other)
+    Twice(one, other)
 }
 
 pub fn salvage(
@@ -355,11 +316,11 @@ pub fn salvage(
     file2: &[u8],
     out2: &mut [u8],
     list2: &mut [u64],
-) -> SalvageTwice
+) -> Twice<Result<Salvaged, Fault>>
     requires { (file.now ≡ file2.now) × (out.old ≡ out2.old) × (list.old ≡ list2.old) }
     ensures { (result.0 ≡ result.1) × (out.new ≡ out2.new) × (list.new ≡ list2.new) }
 {
     let one = remains::salvage(file, out, list);
     let other = remains::salvage(file2, out2, list2);
-    SalvageTwice(one, other)
+    Twice(one, other)
 }
