@@ -1,7 +1,7 @@
 -- Over two pools that agree on what a block reads, a block makes the same and leaves the same. Assumes nothing.
 use mathlib.Core.Path.{ap}
 use mathlib.Core.List.{List}
-use Prim.Native.Nat.{◌+◌, ◌<◌}
+use Prim.Native.Nat.{ℕ, ◌+◌, ◌<◌}
 use lib.Ieee.{Float}
 use Rattle.std.specs.Prelude.{Option, Some, None}
 use Rattle.laws.proofs.Lists.{each_map}

@@ -1,6 +1,6 @@
 -- 'A command other than a transition, for a named clock frame past a block's end and accepted both before and after that block, gives the same samples and
 -- session but for the deepest queue seen.' Definitions only.
-use Rattle.std.specs.Prelude.{◌≡◌, List, map, ◌+◌, ◌<◌, Float, Result}
+use Rattle.std.specs.Prelude.{ℕ, ◌≡◌, List, map, ◌+◌, ◌<◌, Float, Result}
 use Rattle.counts.specs.declared.ClockFrame.{ClockFrame}
 use Rattle.timeline.specs.declared.Submission.{Submission}
 use Rattle.transport.specs.declared.At.{At}
