@@ -6,15 +6,17 @@ use mathlib.Core.Logic.{◌⊎◌, inl, inr}
 use Prim.Native.Nat.{ℕ, zero, suc, ◌+◌, ◌≤◌, ◌<◌, min}
 use native.Mathlib.Omega.{arith}
 use native.Mathlib.Nat.{not-suc-le-zero, eq-or-lt_of_le, le_of_suc-le-suc}
-use borrow.Author.Tests.{le-leb, lt-leb, leb-true, leb-false}
-use lib.Dec.{leb}
+use borrow.Author.Tests.{le-leb, lt-leb, leb-true, leb-false, eqb-true, eqb-false, ne_eqb}
+use lib.Dec.{leb, eqb}
 use Rattle.counts.specs.Below.{all_below}
 use Rattle.counts.proofs.Truth.{two_ways, lt_or_le, never, and_true, and_r, and_false_l, or_cases}
 use Rattle.counts.proofs.Below.{all_search}
 use Rattle.bank.specs.declared.Clip.{Clip}
 use Rattle.bank.specs.declared.Bank.{Bank}
 use Rattle.bank.specs.Slots.{used_at, clip_in}
-use Rattle.bank.specs.Room.{apart, end_in, clear_at, fits, nowhere, first_fit}
+use Rattle.std.specs.Prelude.{Option, Some, None}
+use Rattle.std.specs.Bool.{then_some}
+use Rattle.bank.specs.Room.{apart, end_in, clear_at, fits, nowhere, start_at, lower_of, first_fit}
 use Rattle.bank.proofs.Fit.{fit_lies, fit_apart, first_fits, first_lowest, nowhere_fits}
 
 neither : (a b : Bool) → a || b ≡ false → (a ≡ false) × (b ≡ false)
@@ -38,6 +40,34 @@ ends_here c s n e f = go (or_cases (leb (c.start + c.frames) (suc s)) (leb (suc 
         let l = leb-true (suc s + n) c.start p in
         let m = leb-false (s + n) c.start met.1 in
         absurd (let y : ⊥ = omega arith in y)
+
+-- ---- starts
+
+none_lower : (o : Option ℕ) → lower_of None o ≡ o
+none_lower (Some x) = refl
+none_lower None = refl
+
+lower_none : (o : Option ℕ) → lower_of o None ≡ o
+lower_none (Some x) = refl
+lower_none None = refl
+
+-- the lower of two starts is the lower number, where nowhere is above every start
+lower_start : (x y : ℕ) → x ≤ nowhere → y ≤ nowhere → lower_of (start_at x) (start_at y) ≡ start_at (min x y)
+lower_start x y h k = go (two_ways (eqb x nowhere)) (two_ways (eqb y nowhere))
+  where
+    go : (eqb x nowhere ≡ true) ⊎ (eqb x nowhere ≡ false) → (eqb y nowhere ≡ true) ⊎ (eqb y nowhere ≡ false) → lower_of (start_at x) (start_at y) ≡ start_at (min x y)
+    go (inl e) q =
+        let d = eqb-true x nowhere e in
+        let m : min x y ≡ y = omega arith in
+        rw (m, e) (none_lower (start_at y))
+    go (inr e) (inl f) =
+        let d = eqb-true y nowhere f in
+        let m : min x y ≡ x = omega arith in
+        rw (m, f) (lower_none (start_at x))
+    go (inr e) (inr f) =
+        let d = eqb-false x nowhere e in
+        let g = eqb-false y nowhere f in
+        rw (e, f, ne_eqb (min x y) nowhere (omega arith)) refl
 
 module _ (b : Bank) (room n : ℕ) where
   -- past the pool's end nothing fits
@@ -137,3 +167,28 @@ module _ (b : Bank) (room n : ℕ) where
           absurd (let y : ⊥ = omega arith in y)
       go (inr e) (inl f) = absurd (never (sym e ∙ nowhere_fits b room n some h f (best_of 32)))
       go (inr e) (inr f) = same e f (lt_or_le (best_of 32) (first_fit b room n))
+
+  -- ---- as the code finds it
+
+  module _ (some : 1 ≤ n) (h : room ≤ nowhere) where
+    -- where a clip fits is a start
+    start_where : (t : Bool) (s : ℕ) → (t ≡ true → fits b room n s ≡ true) → then_some t s ≡ start_at (cond t s nowhere)
+    start_where true s f = let l = fit_lies b room n s (f refl) in rw (ne_eqb s nowhere (omega arith)) refl
+    start_where false s f = refl
+
+    at_most : {x : ℕ} → Serves x → x ≤ nowhere
+    at_most (inl e) = omega arith
+    at_most {x} (inr e) = let l = fit_lies b room n x e in omega arith
+
+    -- at first the pool's front,
+    pub start_front : then_some (fits b room n 0) 0 ≡ start_at (best_of 0)
+    unfolding best_of
+    start_front = start_where (fits b room n 0) 0 (λ e. e)
+
+    -- then the lower of what was found and the next slot's end
+    pub start_lower : (k : ℕ) → lower_of (start_at (best_of k)) (then_some (used_at b.used k && fits b room n (end_in b k)) (end_in b k)) ≡ start_at (best_of (suc k))
+    unfolding best_of
+    start_lower k =
+        let t = used_at b.used k && fits b room n (end_in b k) in
+        let f = and_r (used_at b.used k) (fits b room n (end_in b k)) in
+        rw (start_where t (end_in b k) f) (lower_start (best_of k) (candidate k) (at_most (best_serves k)) (at_most (serves_or t (end_in b k) f)))

@@ -1,12 +1,13 @@
 //! The clip bank: 32 slots over a lent pool of samples.
 #![tactic(auto)]
 
-ghost use Rattle.std.specs.Prelude.{◌≡◌, true, false, ◌&&◌, cond, ◌+◌, ◌-◌, ◌<◌, ◌≤◌, ◌^◌, min, leb, length};
+ghost use Rattle.std.specs.Prelude.{◌≡◌, true, false, not, ◌&&◌, ◌||◌, ◌+◌, ◌-◌, ◌<◌, ◌≤◌, ◌^◌, leb, length};
+ghost use Rattle.std.specs.Bool.{then_some};
 ghost use Rattle.counts.specs.Below.{all_below};
 ghost use Rattle.counts.specs.declared.Claim.TheVariants.{Song, Stinger};
 ghost use Rattle.bank.specs.Sample.{frames_of, is_odd, is_pool, sample_ok, samples_ok};
 ghost use Rattle.bank.specs.Slots.{used_at, free_slot, loaded_count, empty_bank, clip_in, clip_of, live, found_of, extent_of, clip_stands, stands_for, stands_in, is_stale, stands_song, stands_stinger, wrong_kind, wrong_rate, claim_ok, loaded_in, retired_from};
-ghost use Rattle.bank.specs.Room.{apart, clear_at, fits, nowhere, end_in, first_fit, pasted};
+ghost use Rattle.bank.specs.Room.{apart, clear_at, fits, end_in, start_at, lower_of, first_fit, pasted};
 ghost use Rattle.bank.specs.WellFormed.{rate_ok, extent_ok, clip_ok, pair_ok, bank_ok};
 
 use counts::{Claim, Handle, SongFrame};
@@ -15,9 +16,6 @@ pub const SLOTS: usize = 32;
 
 /// A song's length goes to 2^40.
 pub const LONGEST: u64 = 0x100_0000_0000;
-
-/// No start at all.
-pub const NOWHERE: u64 = 0xffff_ffff_ffff_ffff;
 
 /// A song has a length, which may go past its samples; a stinger has none.
 #[derive(Clone, Copy)]
@@ -86,15 +84,7 @@ pub fn sample_ok(x: f32) -> bool
 pub fn samples_ok(samples: &[f32]) -> bool
     ensures { result ≡ samples_ok samples.now }
 {
-    let mut i: usize = 0;
-    while i < samples.len() {
-        if sample_ok(samples[i]) {
-            i += 1;
-        } else {
-            return false;
-        }
-    }
-    true
+    samples.iter().all(|&x| sample_ok(x))
 }
 
 /// Frames: half the samples, rounded down.
@@ -257,8 +247,7 @@ pub fn stands_in(b: Bank, c: Claim) -> Stands
 {
     match c {
         Claim::Nothing => Stands::Nothing,
-        Claim::Song(h) => stands_for(b, h),
-        Claim::Stinger(h) => stands_for(b, h),
+        Claim::Song(h) | Claim::Stinger(h) => stands_for(b, h),
     }
 }
 
@@ -266,36 +255,21 @@ pub fn stands_in(b: Bank, c: Claim) -> Stands
 pub fn is_stale(x: Stands) -> bool
     ensures { result ≡ is_stale x }
 {
-    match x {
-        Stands::Nothing => false,
-        Stands::Stale => true,
-        Stands::Song(_) => false,
-        Stands::Stinger(_) => false,
-    }
+    matches!(x, Stands::Stale)
 }
 
 /// It stands for a song.
 fn stands_song(x: Stands) -> bool
     ensures { result ≡ stands_song x }
 {
-    match x {
-        Stands::Nothing => false,
-        Stands::Stale => false,
-        Stands::Song(_) => true,
-        Stands::Stinger(_) => false,
-    }
+    matches!(x, Stands::Song(_))
 }
 
 /// It stands for a stinger.
 fn stands_stinger(x: Stands) -> bool
     ensures { result ≡ stands_stinger x }
 {
-    match x {
-        Stands::Nothing => false,
-        Stands::Stale => false,
-        Stands::Song(_) => false,
-        Stands::Stinger(_) => true,
-    }
+    matches!(x, Stands::Stinger(_))
 }
 
 /// A song where a stinger is due, or the reverse.
@@ -314,33 +288,30 @@ pub fn wrong_rate(rate: u32, x: Stands) -> bool
     ensures { result ≡ wrong_rate rate x }
 {
     match x {
-        Stands::Nothing => false,
-        Stands::Stale => false,
-        Stands::Song(r) => r != rate,
-        Stands::Stinger(r) => r != rate,
+        Stands::Nothing | Stands::Stale => false,
+        Stands::Song(r) | Stands::Stinger(r) => r != rate,
     }
+}
+
+/// What is held is not stale, and of the right kind and rate.
+fn serves(rate: u32, c: Claim, x: Stands) -> bool
+    ensures { result ≡ not (is_stale x || wrong_kind c x || wrong_rate rate x) }
+{
+    !(is_stale(x) | wrong_kind(c, x) | wrong_rate(rate, x))
 }
 
 /// A handle that is held as a song is live, of right kind and rate, in any bank that has these slots used and this clip in the handle's.
 pub fn song_held(used: u32, clip: Clip, rate: u32, h: Handle) -> bool
     ensures { (b : Bank) → b.used ≡ used → (h.slot < 32 → clip_of b h ≡ clip) → result ≡ claim_ok b rate (Song h) }
 {
-    let x = stands_by(used, clip, h);
-    let stale = is_stale(x);
-    let kind = stands_stinger(x);
-    let other = wrong_rate(rate, x);
-    !(stale | kind | other)
+    serves(rate, Claim::Song(h), stands_by(used, clip, h))
 }
 
 /// The same of a handle that is held as a stinger.
 pub fn stinger_held(used: u32, clip: Clip, rate: u32, h: Handle) -> bool
     ensures { (b : Bank) → b.used ≡ used → (h.slot < 32 → clip_of b h ≡ clip) → result ≡ claim_ok b rate (Stinger h) }
 {
-    let x = stands_by(used, clip, h);
-    let stale = is_stale(x);
-    let kind = stands_song(x);
-    let other = wrong_rate(rate, x);
-    !(stale | kind | other)
+    serves(rate, Claim::Stinger(h), stands_by(used, clip, h))
 }
 
 // ---- room
@@ -381,15 +352,7 @@ pub fn clear_at(b: Bank, i: usize, start: u64, n: u64) -> bool
 fn all_clear(b: Bank, start: u64, n: u64) -> bool
     ensures { result ≡ all_below 32 (clear_at b start n) }
 {
-    let mut i: usize = 0;
-    while i < SLOTS {
-        if clear_at(b, i, start, n) {
-            i += 1;
-        } else {
-            return false;
-        }
-    }
-    true
+    (0..SLOTS).all(|i| clear_at(b, i, start, n))
 }
 
 /// A clip of n frames at this start lies in the pool and meets no loaded clip.
@@ -401,62 +364,42 @@ pub fn fits(b: Bank, room: u64, n: u64, start: u64) -> bool
     inside & clear
 }
 
-/// The lower of two starts.
-fn lower(a: u64, b: u64) -> u64
-    ensures { result ≡ min a b }
+/// The lower of two starts, where there are two.
+fn lower(a: Option<u64>, b: Option<u64>) -> Option<u64>
+    ensures { result ≡ lower_of a b }
 {
-    if a <= b { a } else { b }
-}
-
-/// The start where it serves; else nowhere.
-fn start_or(serves: bool, start: u64) -> u64
-    ensures { result ≡ cond serves start nowhere }
-{
-    if serves { start } else { NOWHERE }
-}
-
-/// The end of the clip in slot i, if that is used and n frames fit there; else nowhere.
-fn candidate(b: Bank, room: u64, n: u64, i: usize) -> u64
-    requires { i < 32 }
-    ensures { result ≡ cond (used_at b.used i && fits b room n (end_in b i)) (end_in b i) nowhere }
-{
-    if is_used(b.used, i) {
-        let c = clip_in(b, i);
-        if ends_by(c.start, c.frames, room) {
-            let e = c.start + c.frames;
-            let serves = fits(b, room, n, e);
-            return start_or(serves, e);
-        }
-        return NOWHERE;
+    match (a, b) {
+        (Some(x), Some(y)) => Some(x.min(y)),
+        _ => a.or(b),
     }
-    NOWHERE
 }
 
-/// The lowest start in the pool where a clip of n frames meets no loaded clip, the pool's front or a loaded clip's end; else nowhere.
-pub fn first_fit(b: Bank, room: u64, n: u64) -> u64
-    requires { 1 ≤ n }
-    ensures { result ≡ first_fit b room n }
+/// The end of the clip in slot i, if that is used and n frames fit there.
+fn candidate(b: Bank, room: u64, n: u64, i: usize) -> Option<u64>
+    requires { i < 32 }
+    ensures { result ≡ then_some (used_at b.used i && fits b room n (end_in b i)) (end_in b i) }
 {
-    let front = fits(b, room, n, 0);
-    let mut best = start_or(front, 0);
-    let mut i: usize = 0;
-    while i < SLOTS {
+    if !is_used(b.used, i) {
+        return None;
+    }
+    let c = clip_in(b, i);
+    if !ends_by(c.start, c.frames, room) {
+        return None;
+    }
+    let end = c.start + c.frames;
+    fits(b, room, n, end).then_some(end)
+}
+
+/// The lowest start in the pool where a clip of n frames meets no loaded clip: the pool's front or a loaded clip's end.
+pub fn first_fit(b: Bank, room: u64, n: u64) -> Option<u64>
+    requires { 1 ≤ n }
+    ensures { result ≡ start_at (first_fit b room n) }
+{
+    let mut best = fits(b, room, n, 0).then_some(0);
+    for i in 0..SLOTS {
         best = lower(best, candidate(b, room, n, i));
-        i += 1;
     }
     best
-}
-
-/// One list of samples becomes another.
-fn copy_into(dst: &mut [f32], src: &[f32])
-    requires { length dst.old ≡ length src.now }
-    ensures { dst.new ≡ src.now }
-{
-    let mut i = 0;
-    while i < src.len() {
-        dst[i] = src[i];
-        i += 1;
-    }
 }
 
 /// The clip's samples are copied into the pool from the place `at` on, and no other sample is touched.
@@ -465,7 +408,7 @@ pub fn paste(pool: &mut [f32], at: usize, samples: &[f32])
     ensures { pool.new ≡ pasted pool.old at samples.now }
 {
     let e = at + samples.len();
-    copy_into(&mut pool[at..e], samples);
+    pool[at..e].copy_from_slice(samples);
 }
 
 // ---- well formed
@@ -510,28 +453,18 @@ pub fn pair_ok(c: Clip, d: Clip) -> bool
 pub fn bank_ok(b: Bank, room: u64) -> bool
     ensures { result ≡ bank_ok b room }
 {
-    let mut i: usize = 0;
-    while i < SLOTS {
-        if is_used(b.used, i) {
-            let c = b.clips[i];
-            if !clip_ok(c, room, b.last) {
+    for i in 0..SLOTS {
+        if !is_used(b.used, i) {
+            continue;
+        }
+        let c = b.clips[i];
+        if !clip_ok(c, room, b.last) {
+            return false;
+        }
+        for j in 0..i {
+            if is_used(b.used, j) && !pair_ok(c, b.clips[j]) {
                 return false;
             }
-            let mut j: usize = 0;
-            while j < i {
-                if is_used(b.used, j) {
-                    let d = b.clips[j];
-                    if !pair_ok(c, d) {
-                        return false;
-                    }
-                    j += 1;
-                } else {
-                    j += 1;
-                }
-            }
-            i += 1;
-        } else {
-            i += 1;
         }
     }
     true

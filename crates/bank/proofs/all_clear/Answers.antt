@@ -1,22 +1,12 @@
--- `bank::all_clear` meets its contract. Assumes nothing.
-use mathlib.Core.Bool.{true}
-use mathlib.Core.Path.{◌≡◌, sym, ◌∙◌}
-use Prim.Native.Nat.{ℕ, ◌-◌, ◌≤◌, ◌<◌}
-use native.Mathlib.Omega.{arith}
-use borrow.Author.Count.{below_none, below_more}
-use borrow.Author.Rules.{rules}
-use Rattle.counts.proofs.Below.{all_true, all_false}
+-- `bank::all_clear` meets its contract: the test of every slot. Assumes nothing.
+use Rattle.std.proofs.Common.{◌∙◌, refl, rules, tests}
+use Rattle.std.proofs.lemmas.Iterator.{YieldsList-from_range}
+use Rattle.std.proofs.lemmas.Iterator.Search.{all_from_yields_List}
+use Rattle.counts.proofs.Chains.{all_of_range}
 use Rattle.bank.specs.Room.{clear_at}
 use Rattle.bank.proofs.all_clear.Goals as goal
 
-pub loop-i-init : goal.loop-i-init
-loop-i-init c = (search rules, below_none _)
-
-pub loop-i-preserved : goal.loop-i-preserved
-loop-i-preserved c = (search rules, below_more _ _ c.loop-i.invariant.1 (sym c.clear_at.ensures ∙ c.if-clear_at.true))
-
-pub returns-else-clear_at : goal.returns-else-clear_at
-returns-else-clear_at c = sym (all_false _ _ c.loop-i.i (omega arith) (sym c.clear_at.ensures ∙ c.if-clear_at.false))
-
 pub returns : goal.returns
-returns c = sym (all_true _ _ (λ k h. c.loop-i.invariant.1 k (omega arith)))
+returns c =
+    let clear = clear_at c.args.b c.args.start c.args.n in
+    all_from_yields_List clear _ _ _ c.all.ensures.ran (YieldsList-from_range 0 32 32 (cc) refl) (λ x b q k. search (rules, tests)) ∙ all_of_range clear 32

@@ -1,22 +1,19 @@
--- `bank::first_fit` meets its contract. Assumes nothing.
-use mathlib.Core.Path.{◌≡◌, ◌∙◌}
-use Prim.Native.Nat.{◌-◌, ◌≤◌}
+-- `bank::first_fit` meets its contract: the lowest start of the slots passed. Assumes nothing.
+use Rattle.std.proofs.Common.{◌≡◌, ◌≤◌, ap, ◌∙◌, arith}
 use native.Mathlib.Numerals.{add-one}
-use native.Mathlib.Omega.{arith}
-use borrow.Author.Rules.{rules}
-use Rattle.bank.proofs.Candidates.{best_of, first_fit_by_ends}
+use Rattle.bank.specs.Room.{nowhere, start_at}
+use Rattle.bank.proofs.Candidates.{first_fit_by_ends, start_front, start_lower}
 use Rattle.bank.proofs.first_fit.Goals as goal
 
 pub loop-i-init : goal.loop-i-init
-unfolding best_of
-loop-i-init c = (search rules, simp (← c.fits-front.ensures) c.start_or-best.ensures)
+loop-i-init c = c.then_some-best.ensures ∙ rw c.fits.ensures (start_front _ _ _ c.requires (omega (arith, c.ranges.room.fits)))
 
 pub loop-i-preserved : goal.loop-i-preserved
-unfolding best_of
 loop-i-preserved c =
-    (search rules, rw (add-one, best_of, ← c.loop-i.invariant.1, ← c.candidate.ensures) c.lower-best.ensures)
+    c.lower-best.ensures
+    ∙ rw (c.loop-i.invariant, c.candidate.ensures, add-one c.loop-i.i) (start_lower _ _ _ c.requires (omega (arith, c.ranges.room.fits)) c.loop-i.i)
 
 pub returns : goal.returns
 returns c =
     let e : c.loop-i.i ≡ 32 = omega arith in
-    c.loop-i.invariant.1 ∙ rw e (first_fit_by_ends _ _ _ c.requires (omega (arith, c.ranges.room.fits)))
+    c.loop-i.invariant ∙ ap start_at (rw e (first_fit_by_ends _ _ _ c.requires (omega (arith, c.ranges.room.fits))))

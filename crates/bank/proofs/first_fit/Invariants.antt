@@ -1,14 +1,8 @@
--- `bank::first_fit` meets its contract. Assumes nothing.
-use mathlib.Core.Path.{◌≡◌, ◌∙◌}
-use Prim.Native.Nat.{◌-◌, ◌≤◌}
-use native.Mathlib.Numerals.{add-one}
-use native.Mathlib.Omega.{arith}
-use borrow.Author.Rules.{rules}
-use Rattle.bank.proofs.Candidates.{best_of, first_fit_by_ends}
+-- `bank::first_fit` meets its contract: the lowest start of the slots passed. Assumes nothing.
+use Rattle.std.proofs.Common.{◌≡◌}
+use Rattle.bank.specs.Room.{start_at}
+use Rattle.bank.proofs.Candidates.{best_of}
 use Rattle.bank.proofs.first_fit.Given as goal
 
 abbrev pub invariant-loop-i : goal.invariant-loop-i
-invariant-loop-i l = (l.i ≤ 32) × (l.best ≡ best_of l.b l.room l.n l.i)
-
-abbrev pub decreases-loop-i : goal.decreases-loop-i
-decreases-loop-i l = 32 - l.i
+invariant-loop-i l = l.best ≡ start_at (best_of l.b l.room l.n l.i)

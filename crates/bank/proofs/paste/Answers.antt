@@ -1,7 +1,6 @@
 -- `bank::paste` meets its contract. Assumes nothing.
-use borrow.Author.Rules.{rules}
 use Rattle.bank.proofs.Places.{part_pasted}
 use Rattle.bank.proofs.paste.Goals as goal
 
 pub returns : goal.returns
-returns c = part_pasted _ _ _ _ c.copy_into.ensures
+returns c = part_pasted _ _ _ _ c.copy_from_slice.ensures.after

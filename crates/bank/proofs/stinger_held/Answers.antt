@@ -1,8 +1,7 @@
 -- `bank::stinger_held` meets its contract, in any bank that has the clip. Assumes nothing.
-use borrow.Author.Rules.{rules}
 use Rattle.bank.specs.Slots.{claim_ok}
 use Rattle.bank.proofs.stinger_held.Goals as goal
 
 pub returns : goal.returns
 unfolding claim_ok
-returns c b e f = simp (c.wrong_rate-other.ensures, c.stands_song-kind.ensures, c.is_stale-stale.ensures, c.stands_by-x.ensures b e f)
+returns c b e f = simp (c.serves.ensures, c.stands_by.ensures b e f)
