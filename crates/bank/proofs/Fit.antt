@@ -1,18 +1,20 @@
 -- Where a clip fits in the pool: the first fit is the lowest of all starts where it meets no loaded clip. Assumes nothing.
 use mathlib.Core.Path.{◌≡◌, refl, sym, ap}
-use mathlib.Core.Bool.{Bool, true, false, cond}
+use mathlib.Core.Bool.{Bool, true, false, not, cond}
 use mathlib.Core.Logic.{◌⊎◌, inl, inr}
 use Prim.Native.Nat.{ℕ, zero, suc, ◌+◌, ◌≤◌, ◌<◌, min}
 use native.Mathlib.Omega.{arith}
 use native.Mathlib.Nat.{not-suc-le-zero, eq-or-lt_of_le, le_of_suc-le-suc}
-use borrow.Author.Tests.{leb-true}
-use lib.Dec.{leb}
+use borrow.Author.Tests.{leb-true, ne_eqb}
+use lib.Dec.{leb, eqb}
 use Rattle.counts.specs.Below.{all_below}
-use Rattle.counts.proofs.Truth.{two_ways, lt_or_le, and_l, and_r}
+use Rattle.counts.proofs.Truth.{two_ways, lt_or_le, never, and_l, and_r}
 use Rattle.counts.proofs.Below.{all_at}
 use Rattle.bank.specs.declared.Bank.{Bank}
 use Rattle.bank.specs.Slots.{used_at, clip_in}
-use Rattle.bank.specs.Room.{apart, clear_at, fits, nowhere, lowest, first_fit}
+use Rattle.std.specs.Prelude.{Some, None}
+use Rattle.std.specs.Option.{is_some}
+use Rattle.bank.specs.Room.{apart, clear_at, fits, nowhere, start_at, lowest, first_fit}
 
 -- ---- the lowest number that passes a test
 
@@ -84,3 +86,23 @@ module _ (b : Bank) (room n : ℕ) where
       go : (fits b room n t ≡ true) ⊎ (fits b room n t ≡ false) → fits b room n t ≡ false
       go (inl f) = let d = fit_lies t f in first_lowest h t (omega arith)
       go (inr f) = f
+
+-- ---- a start, or none
+
+-- a number below nowhere is a start
+pub start_some : (s : ℕ) → s < nowhere → start_at s ≡ Some s
+start_some s l = rw (ne_eqb s nowhere (omega arith)) refl
+
+-- and no other
+pub start_is : (s x : ℕ) → s < nowhere → start_at s ≡ Some x → x ≡ s
+start_is s x l e = let f = start_some s l in cc
+
+-- there is no start where the number is nowhere
+pub start_none : (s : ℕ) (t : Bool) → is_some (start_at s) ≡ not t → eqb s nowhere ≡ t
+start_none s t = go (eqb s nowhere) t
+  where
+    go : (b t : Bool) → is_some (cond b None (Some s)) ≡ not t → b ≡ t
+    go true true e = refl
+    go false false e = refl
+    go true false e = absurd (never (sym e))
+    go false true e = absurd (never e)

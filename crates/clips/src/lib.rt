@@ -231,7 +231,7 @@ pub fn weigh_load(
     if b.last == 0xffff_ffff {
         return Err(Refusal::SerialsSpent);
     }
-    if bank::first_fit(b, settings.pool, frames) == bank::NOWHERE {
+    if bank::first_fit(b, settings.pool, frames).is_none() {
         return Err(Refusal::NoRoom);
     }
     Ok(())
@@ -251,7 +251,7 @@ fn load_clip(
 {
     let b = s.bank;
     let frames = bank::frames_of(samples);
-    let start = bank::first_fit(b, s.settings.pool, frames);
+    let start = bank::first_fit(b, s.settings.pool, frames).unwrap();
     let at = (start * 2) as usize;
     bank::paste(pool, at, samples);
     let slot = bank::free_slot(b.used);

@@ -5,6 +5,7 @@ use borrow.Author.Tests.{ne_eqb}
 use Rattle.session.specs.Refusal.{first}
 use Rattle.std.proofs.Common.{arith}
 use Rattle.std.proofs.lemmas.Grind.{common_steps}
+use Rattle.bank.proofs.Fit.{start_none}
 use Rattle.clips.specs.Load.{weigh_load}
 use Rattle.clips.proofs.Loaded.{whole_frames}
 use Rattle.clips.proofs.weigh_load.Goals as goal
@@ -46,10 +47,14 @@ first_fit-requires c =
     let samples = c.args.samples.now in
     rw c.frames_of-frames.ensures (whole_frames samples (sym c.is_odd.ensures ∙ c.if-is_odd.false) (ne_eqb (length samples) 0 c.if-samples-eq0.false)).1
 
-pub returns-then-first_fit : goal.returns-then-first_fit
+pub returns-then-is_none : goal.returns-then-is_none
 unfolding weigh_load first
-returns-then-first_fit c = grind (arith, common_steps)
+returns-then-is_none c =
+    let none = rw c.frames_of-frames.ensures at (start_none _ _ (rw c.first_fit.ensures at c.is_none.ensures) ∙ c.if-is_none.true) in
+    grind (arith, common_steps)
 
 pub returns : goal.returns
 unfolding weigh_load first
-returns c = grind (arith, common_steps)
+returns c =
+    let some = rw c.frames_of-frames.ensures at (start_none _ _ (rw c.first_fit.ensures at c.is_none.ensures) ∙ c.if-is_none.false) in
+    grind (arith, common_steps)
