@@ -5,7 +5,67 @@ use Prim.Native.Nat.{ℕ, suc, ◌+◌, ◌*◌, ◌/◌, ◌%◌, ◌<◌, ◌�
 use native.Mathlib.Omega.{arith}
 use lib.ListN.{length, get_or, take, drop, take-append-drop}
 use lib.Seq.{take-add, drop-drop, drop-cons}
+use Rattle.std.specs.Int.{w16, w32, w64, to_le_bytes, from_le_bytes}
 use Rattle.fields.specs.Bytes.{two, four, eight, two_bytes, four_bytes, eight_bytes}
+
+-- the library's bytes of a number
+pub two_same : (x : ℕ) → x < 2 ^ 16 → to_le_bytes w16 x ≡ two_bytes x
+two_same x h = let a : x / 256 % 256 ≡ x / 256 = omega arith in rw a refl
+
+pub four_same : (x : ℕ) → x < 2 ^ 32 → to_le_bytes w32 x ≡ four_bytes x
+unfolding four_bytes
+four_same x h =
+    let a : x % 256 ≡ x % 65536 % 256 = omega arith in
+    let b : x / 256 % 256 ≡ x % 65536 / 256 = omega arith in
+    let d : x / 16777216 % 256 ≡ x / 65536 / 256 = omega arith in
+    cc
+
+pub eight_same : (x : ℕ) → x < 2 ^ 64 → to_le_bytes w64 x ≡ eight_bytes x
+unfolding eight_bytes four_bytes
+eight_same x h =
+    let a : x % 256 ≡ x % 2 ^ 32 % 65536 % 256 = omega arith in
+    let b : x / 256 % 256 ≡ x % 2 ^ 32 % 65536 / 256 = omega arith in
+    let c : x / 65536 % 256 ≡ x % 2 ^ 32 / 65536 % 256 = omega arith in
+    let d : x / 16777216 % 256 ≡ x % 2 ^ 32 / 65536 / 256 = omega arith in
+    let e : x / 2 ^ 32 % 256 ≡ x / 2 ^ 32 % 65536 % 256 = omega arith in
+    let f : x / 1099511627776 % 256 ≡ x / 2 ^ 32 % 65536 / 256 = omega arith in
+    let g : x / 281474976710656 % 256 ≡ x / 2 ^ 32 / 65536 % 256 = omega arith in
+    let i : x / 72057594037927936 % 256 ≡ x / 2 ^ 32 / 65536 / 256 = omega arith in
+    cc
+
+-- and the number that it makes of bytes
+module _ (s bs : List ℕ) (i : ℕ) where
+  one_same : (k j : ℕ) → get_or bs k 0 ≡ get_or s (i + k) 0 → i + k ≡ j → get_or bs k 0 ≡ get_or s j 0
+  one_same k j h e = h ∙ ap (λ (m : ℕ). get_or s m 0) e
+
+  pub two_read : ((k : ℕ) → k < 2 → get_or bs k 0 ≡ get_or s (i + k) 0) → from_le_bytes w16 bs ≡ two s i
+  unfolding two
+  two_read h =
+      let a = one_same 0 i (h 0 (omega arith)) (omega arith) in
+      let b = one_same 1 (i + 1) (h 1 (omega arith)) (omega arith) in
+      omega arith
+
+  pub four_read : ((k : ℕ) → k < 4 → get_or bs k 0 ≡ get_or s (i + k) 0) → from_le_bytes w32 bs ≡ four s i
+  unfolding four two
+  four_read h =
+      let a = one_same 0 i (h 0 (omega arith)) (omega arith) in
+      let b = one_same 1 (i + 1) (h 1 (omega arith)) (omega arith) in
+      let c = one_same 2 (i + 2) (h 2 (omega arith)) (omega arith) in
+      let d = one_same 3 (i + 2 + 1) (h 3 (omega arith)) (omega arith) in
+      omega arith
+
+  pub eight_read : ((k : ℕ) → k < 8 → get_or bs k 0 ≡ get_or s (i + k) 0) → from_le_bytes w64 bs ≡ eight s i
+  unfolding eight four two
+  eight_read q =
+      let a = one_same 0 i (q 0 (omega arith)) (omega arith) in
+      let b = one_same 1 (i + 1) (q 1 (omega arith)) (omega arith) in
+      let c = one_same 2 (i + 2) (q 2 (omega arith)) (omega arith) in
+      let d = one_same 3 (i + 2 + 1) (q 3 (omega arith)) (omega arith) in
+      let e = one_same 4 (i + 4) (q 4 (omega arith)) (omega arith) in
+      let f = one_same 5 (i + 4 + 1) (q 5 (omega arith)) (omega arith) in
+      let g = one_same 6 (i + 4 + 2) (q 6 (omega arith)) (omega arith) in
+      let h = one_same 7 (i + 4 + 2 + 1) (q 7 (omega arith)) (omega arith) in
+      omega arith
 
 -- a number's bytes at the front give it back
 pub four_back : (x : ℕ) (rest : List ℕ) → four (four_bytes x ++ rest) 0 ≡ x

@@ -2,7 +2,7 @@
 //! that its clip bytes stand for.
 #![tactic(auto)]
 
-ghost use Rattle.std.specs.Prelude.{◌≡◌, [], ◌∷◌, ◌+◌, ◌≤◌, ◌<◌, ◌^◌, eqb, get_or, length};
+ghost use Rattle.std.specs.Prelude.{◌≡◌, ℕ, [], ◌∷◌, ◌+◌, ◌≤◌, ◌<◌, ◌^◌, eqb, get_or, length};
 ghost use Rattle.std.proofs.lemmas.List.Edits.{sets};
 ghost use Rattle.counts.specs.Below.{any_below};
 ghost use Rattle.fields.specs.Bytes.{two, four, eight, two_bytes, four_bytes, eight_bytes};
@@ -16,10 +16,15 @@ ghost use Rattle.fields.specs.Clips.{is_handle, is_listed, handle_at, twice_at, 
 pub fn byte(s: &[u8], i: usize) -> u8
     ensures { result ≡ get_or s.now i 0 }
 {
-    if i < s.len() {
-        return s[i];
-    }
-    0
+    s.get(i).copied().unwrap_or(0)
+}
+
+/// So many bytes from a place on; past the end zeros.
+fn bytes<const N: usize>(s: &[u8], i: usize) -> [u8; N]
+    requires { i + N ≤ 2 ^ 64 }
+    ensures { (k : ℕ) → k < N → get_or result k 0 ≡ get_or s.now (i + k) 0 }
+{
+    std::array::from_fn(|k| byte(s, i + k))
 }
 
 /// The number of two bytes.
@@ -27,9 +32,7 @@ pub fn two(s: &[u8], i: usize) -> u16
     requires { i + 1 < 2 ^ 64 }
     ensures { result ≡ two s.now i }
 {
-    let low = byte(s, i);
-    let high = byte(s, i + 1);
-    (low as u16) + 256 * (high as u16)
+    u16::from_le_bytes(bytes(s, i))
 }
 
 /// The number of four bytes.
@@ -37,9 +40,7 @@ pub fn four(s: &[u8], i: usize) -> u32
     requires { i + 3 < 2 ^ 64 }
     ensures { result ≡ four s.now i }
 {
-    let low = two(s, i);
-    let high = two(s, i + 2);
-    (low as u32) + 65536 * (high as u32)
+    u32::from_le_bytes(bytes(s, i))
 }
 
 /// The number of eight bytes.
@@ -47,9 +48,7 @@ pub fn eight(s: &[u8], i: usize) -> u64
     requires { i + 7 < 2 ^ 64 }
     ensures { result ≡ eight s.now i }
 {
-    let low = four(s, i);
-    let high = four(s, i + 4);
-    (low as u64) + 0x1_0000_0000 * (high as u64)
+    u64::from_le_bytes(bytes(s, i))
 }
 
 /// Writes one byte.
@@ -61,21 +60,19 @@ pub fn put_byte(out: &mut [u8], at: usize, b: u8)
 }
 
 /// Writes a number to two bytes.
-pub fn put_two(out: &mut [u8], at: usize, x: u64)
-    requires { (at + 2 ≤ length out.old) × (x < 65536) }
+pub fn put_two(out: &mut [u8], at: usize, x: u16)
+    requires { at + 2 ≤ length out.old }
     ensures { out.new ≡ sets out.old at (two_bytes x) }
 {
-    out[at] = (x % 256) as u8;
-    out[at + 1] = (x / 256) as u8;
+    out[at..at + 2].copy_from_slice(&x.to_le_bytes());
 }
 
 /// Writes a number to four bytes.
-fn put_four(out: &mut [u8], at: usize, x: u64)
-    requires { (at + 4 ≤ length out.old) × (x < 2 ^ 32) }
+fn put_four(out: &mut [u8], at: usize, x: u32)
+    requires { at + 4 ≤ length out.old }
     ensures { out.new ≡ sets out.old at (four_bytes x) }
 {
-    put_two(out, at, x % 65536);
-    put_two(out, at + 2, x / 65536);
+    out[at..at + 4].copy_from_slice(&x.to_le_bytes());
 }
 
 /// Writes a number to eight bytes.
@@ -83,8 +80,7 @@ pub fn put_eight(out: &mut [u8], at: usize, x: u64)
     requires { at + 8 ≤ length out.old }
     ensures { out.new ≡ sets out.old at (eight_bytes x) }
 {
-    put_four(out, at, x % 0x1_0000_0000);
-    put_four(out, at + 4, x / 0x1_0000_0000);
+    out[at..at + 8].copy_from_slice(&x.to_le_bytes());
 }
 
 // ---- fields
@@ -310,7 +306,7 @@ pub fn put_part(out: &mut [u8], at: usize, clips: &[u64; 32], p: Part, w: u64)
     match p {
         Part::Nothing => {}
         Part::Frame => put_eight(out, at, w),
-        Part::Gain => put_four(out, at, w),
+        Part::Gain => put_four(out, at, w as u32),
         Part::Clip => put_byte(out, at, clip_byte(clips, w)),
     }
 }

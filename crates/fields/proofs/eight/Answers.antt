@@ -1,7 +1,7 @@
 -- `eight` meets its contract.
-use Rattle.fields.specs.Bytes.{eight}
+use mathlib.Core.Path.{◌∙◌}
+use Rattle.fields.proofs.Numbers.{eight_read}
 use Rattle.fields.proofs.eight.Goals as goal
 
 pub returns : goal.returns
-unfolding eight
-returns c = cc
+returns c = c.from_le_bytes.ensures ∙ eight_read c.args.s.now c.bytes.result c.args.i c.bytes.ensures

@@ -1,7 +1,7 @@
 -- `four` meets its contract.
-use Rattle.fields.specs.Bytes.{four}
+use mathlib.Core.Path.{◌∙◌}
+use Rattle.fields.proofs.Numbers.{four_read}
 use Rattle.fields.proofs.four.Goals as goal
 
 pub returns : goal.returns
-unfolding four
-returns c = cc
+returns c = c.from_le_bytes.ensures ∙ four_read c.args.s.now c.bytes.result c.args.i c.bytes.ensures

@@ -1,12 +1,14 @@
 -- `put_eight` meets its contract.
-use mathlib.Core.Path.{refl}
-use Prim.Native.Nat.{◌+◌, ◌/◌, ◌%◌, ◌^◌}
+use mathlib.Core.Path.{◌≡◌, ◌∙◌}
+use native.Mathlib.Omega.{arith}
 use Rattle.fields.specs.Bytes.{four_bytes, eight_bytes}
-use Rattle.fields.proofs.Writes.{two_writes}
+use Rattle.fields.proofs.Numbers.{eight_same}
+use Rattle.fields.proofs.Writes.{part_sets}
 use Rattle.fields.proofs.put_eight.Goals as goal
 
 pub returns : goal.returns
-unfolding eight_bytes four_bytes
+unfolding four_bytes eight_bytes
 returns c =
     let a = c.args in
-    rw (c.put_four-2.ensures, c.put_four.ensures) (two_writes (four_bytes (a.x % 2 ^ 32)) (four_bytes (a.x / 2 ^ 32)) a.out.now a.at (a.at + 4) refl)
+    let e : c.copy_from_slice.new.self ≡ eight_bytes a.x = c.copy_from_slice.ensures.after ∙ (c.to_le_bytes.ensures ∙ eight_same a.x (omega arith)) in
+    rw e (part_sets a.out.now (eight_bytes a.x) a.at _ (omega arith) c.requires)

@@ -9,10 +9,7 @@ put_eight-requires c = let q = rw c.in-Frame.is at c.requires.0 in omega arith
 
 pub put_four-requires : goal.put_four-requires
 put_four-requires c =
-    let e = c.in-Gain.is in
-    let q = c.requires in
-    let l = rw e at q.0 in
-    (omega arith, rw e at q.1)
+    let q = rw c.in-Gain.is at c.requires.0 in omega arith
 
 pub put_byte-requires : goal.put_byte-requires
 put_byte-requires c = let q = rw c.in-Clip.is at c.requires.0 in omega arith

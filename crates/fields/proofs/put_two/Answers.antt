@@ -1,12 +1,13 @@
 -- `put_two` meets its contract.
-use mathlib.Core.Path.{refl}
+use mathlib.Core.Path.{◌≡◌, ◌∙◌}
 use native.Mathlib.Omega.{arith}
-use native.Mathlib.Numerals.{add-one}
-use lib.ListN.{length-set}
+use Rattle.fields.specs.Bytes.{two_bytes}
+use Rattle.fields.proofs.Numbers.{two_same}
+use Rattle.fields.proofs.Writes.{part_sets}
 use Rattle.fields.proofs.put_two.Goals as goal
 
-pub bounds-out-at-2 : goal.bounds-out-at-2
-bounds-out-at-2 c = simp length-set (omega arith)
-
 pub returns : goal.returns
-returns c = rw (add-one c.args.at) refl
+returns c =
+    let a = c.args in
+    let e : c.copy_from_slice.new.self ≡ two_bytes a.x = c.copy_from_slice.ensures.after ∙ (c.to_le_bytes.ensures ∙ two_same a.x (omega arith)) in
+    rw e (part_sets a.out.now (two_bytes a.x) a.at _ (omega arith) c.requires)

@@ -1,8 +1,7 @@
 -- `two` meets its contract.
-use mathlib.Core.Path.{refl}
-use Rattle.fields.specs.Bytes.{two}
+use mathlib.Core.Path.{◌∙◌}
+use Rattle.fields.proofs.Numbers.{two_read}
 use Rattle.fields.proofs.two.Goals as goal
 
 pub returns : goal.returns
-unfolding two
-returns c = rw (← c.byte-low.ensures, ← c.byte-high.ensures) refl
+returns c = c.from_le_bytes.ensures ∙ two_read c.args.s.now c.bytes.result c.args.i c.bytes.ensures
