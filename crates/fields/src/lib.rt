@@ -116,29 +116,21 @@ pub fn is_kind(k: u64) -> bool
 fn is_handle(w: u64) -> bool
     ensures { result ≡ is_handle w }
 {
-    !(w % 0x1_0000_0000 == 0)
+    w % 0x1_0000_0000 != 0
 }
 
 /// The clip byte stands for a handle.
 pub fn is_listed(clips: &[u64; 32], b: u8) -> bool
     ensures { result ≡ is_listed clips.now b }
 {
-    let i = b as usize;
-    if i < 32 {
-        return is_handle(clips[i]);
-    }
-    false
+    is_handle(handle_at(clips, b))
 }
 
 /// The handle of a clip byte; past the list 0.
 fn handle_at(clips: &[u64; 32], b: u8) -> u64
     ensures { result ≡ handle_at clips.now b }
 {
-    let i = b as usize;
-    if i < 32 {
-        return clips[i];
-    }
-    0
+    clips.get(b as usize).copied().unwrap_or(0)
 }
 
 /// The word at i stands further down too.
@@ -146,15 +138,7 @@ fn stands_below(clips: &[u64; 32], i: usize) -> bool
     requires { i < 32 }
     ensures { result ≡ any_below i (λ j. eqb (get_or clips.now j 0) (get_or clips.now i 0)) }
 {
-    let w = clips[i];
-    let mut j: usize = 0;
-    while j < i {
-        if clips[j] == w {
-            return true;
-        }
-        j += 1;
-    }
-    false
+    clips[..i].contains(&clips[i])
 }
 
 /// The handle at i stands further down too.
@@ -171,14 +155,7 @@ fn twice_at(clips: &[u64; 32], i: usize) -> bool
 pub fn listed_twice(clips: &[u64; 32]) -> bool
     ensures { result ≡ listed_twice clips.now }
 {
-    let mut i: usize = 0;
-    while i < 32 {
-        if twice_at(clips, i) {
-            return true;
-        }
-        i += 1;
-    }
-    false
+    (0..32).any(|i| twice_at(clips, i))
 }
 
 /// The highest place of a word in the list; 32 if it has none.
