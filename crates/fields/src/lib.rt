@@ -211,12 +211,7 @@ impl Part {
     fn is_clip(self) -> bool
         ensures { result ≡ is_clip self }
     {
-        match self {
-            Part::Nothing => false,
-            Part::Frame => false,
-            Part::Gain => false,
-            Part::Clip => true,
-        }
+        matches!(self, Part::Clip)
     }
 }
 

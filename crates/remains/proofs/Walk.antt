@@ -5,11 +5,9 @@ use mathlib.Core.Logic.{⊎_elim}
 use mathlib.Core.List.{List, [], ◌∷◌}
 use mathlib.Core.Bool.{Bool, true, false, ◌&&◌, cond}
 use native.Mathlib.Omega.{arith}
-use native.Mathlib.Numerals.{add-one}
-use borrow.Author.Tests.{eqb-true, eqb-false, eq-eqb, ne_eqb, lt-ltb, le-ltb}
-use lib.ListN.{length, take, drop, set, get_or, length-drop, length-append}
-use lib.Seq.{drop-cons, length-take-le, get_or-take, get_or-drop, sets}
-use lib.Dec.{eqb}
+use borrow.Author.Tests.{lt-ltb, le-ltb}
+use lib.ListN.{length, take, drop, length-append}
+use lib.Seq.{sets}
 use Rattle.counts.proofs.Truth.{lt_or_le, two_ways}
 use Rattle.fields.specs.Field.{piece_size}
 use Rattle.fields.proofs.Fields.{front_length}
@@ -202,13 +200,3 @@ module _ (file : List ℕ) (p : Progress) (h : p.at < length file) where
       → sets (sets l k (fate_word (what file p) ∷ p.at ∷ (next file p).at ∷ [])) (k + 3) (range_words (from file (next file p))) ≡ sets l k (range_words (from file p))
   unfolding range_words
   words_next l k = rw from_front (two_writes (fate_word (what file p) ∷ p.at ∷ (next file p).at ∷ []) (range_words (from file (next file p))) l k (k + 3) refl)
-
--- one byte more is copied
-pub copy_next : (file l : List ℕ) (from n at i : ℕ) → i < n → from + n ≤ length file
-    → sets (set l (at + i) (get_or file (from + i) 0)) (at + (i + 1)) (drop (i + 1) (take n (drop from file))) ≡ sets l (at + i) (drop i (take n (drop from file)))
-copy_next file l from n at i h g =
-    let m : length (take n (drop from file)) ≡ n = length-take-le n (drop from file) (rw length-drop (omega arith)) in
-    let x : get_or (take n (drop from file)) i 0 ≡ get_or file (from + i) 0 = get_or-take n (drop from file) i 0 h ∙ get_or-drop from file i 0 in
-    let e : at + (i + 1) ≡ suc (at + i) = omega arith in
-    let d = drop-cons (take n (drop from file)) i 0 (omega arith) in
-    rw (d, x, e, add-one i) refl

@@ -125,8 +125,7 @@ fn run_end(file: &[u8], p: Progress) -> usize
     requires { p.at ≤ length file.now }
     ensures { result ≡ run_end (length file.now) file.now p }
 {
-    let mut at = p.at;
-    while at < file.len() {
+    for at in p.at..file.len() {
         let q = Progress {
             at,
             count: p.count,
@@ -135,9 +134,8 @@ fn run_end(file: &[u8], p: Progress) -> usize
         if !matches!(what_at(file, q), Fate::Dropped) {
             return at;
         }
-        at += 1;
     }
-    at
+    file.len()
 }
 
 /// Behind the range that begins at a place: a whole field, or a run of dropped bytes.
@@ -195,11 +193,7 @@ fn copy_part(file: &[u8], from: usize, n: usize, out: &mut [u8], at: usize)
     requires { (from + n ≤ length file.now) × (at + n ≤ length out.old) }
     ensures { out.new ≡ sets out.old at (take n (drop from file.now)) }
 {
-    let mut i: usize = 0;
-    while i < n {
-        out[at + i] = file[from + i];
-        i += 1;
-    }
+    out[at..at + n].copy_from_slice(&file[from..from + n]);
 }
 
 /// Writes the kept fields behind the fresh file's first one, and gives the place behind them.
@@ -266,7 +260,7 @@ fn put_fresh(file: &[u8], out: &mut [u8], kept: usize)
 {
     tourfile::put_version(out);
     let at = put_kept(file, out);
-    tourfile::put_last(out, at, kept as u64);
+    tourfile::put_last(out, at, kept as u16);
 }
 
 /// Salvages a damaged tour: the fresh file at the output's front, the ranges at the list's, or why neither.

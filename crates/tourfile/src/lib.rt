@@ -390,22 +390,20 @@ fn weigh_records(clips: &[u64; 32], records: &[u64]) -> Result<usize, TourError>
     ensures { result ≡ records_weighed clips.now 0 0 (records_of records.now) }
 {
     let n = records.len() / 5;
-    let mut i: usize = 0;
     let mut before: u64 = 0;
-    while i < n {
+    for i in 0..n {
         let x = timeline::row_at(records, i);
         if let Err(f) = judge_record(clips, i, before, x) {
             return Err(f.at(i));
         }
         before = x.number;
-        i += 1;
     }
-    Ok(i)
+    Ok(n)
 }
 
 /// Writes the tag and the length of a command.
-fn put_start(out: &mut [u8], at: usize, body: u64)
-    requires { (at + 3 ≤ length out.old) × (body < 65536) }
+fn put_start(out: &mut [u8], at: usize, body: u16)
+    requires { at + 3 ≤ length out.old }
     ensures { out.new ≡ sets out.old at (2 ∷ two_bytes body) }
 {
     fields::put_byte(out, at, 2);
@@ -426,7 +424,7 @@ fn put_head(out: &mut [u8], at: usize, x: Row)
     requires { (at + 20 ≤ length out.old) × (readable x ≡ true) }
     ensures { out.new ≡ sets out.old at (head_bytes x) }
 {
-    let body = 17 + (fields::carried(x.kind) as u64);
+    let body = 17 + (fields::carried(x.kind) as u16);
     let kind = x.kind as u8;
     put_start(out, at, body);
     fields::put_eight(out, at + 3, x.at);
@@ -452,12 +450,10 @@ fn tour_size(records: &[u64], n: usize) -> usize
     ensures { result ≡ 10 + size_of (rows_from records.now 0 n) }
 {
     let mut size: usize = 10;
-    let mut i: usize = 0;
-    while i < n {
+    for i in 0..n {
         let x = timeline::row_at(records, i);
         let more = fields::carried(x.kind) as usize;
         size += 20 + more;
-        i += 1;
     }
     size
 }
@@ -467,16 +463,12 @@ pub fn put_version(out: &mut [u8])
     requires { 5 ≤ length out.old }
     ensures { out.new ≡ sets out.old 0 version_bytes }
 {
-    out[0] = 1;
-    out[1] = 2;
-    out[2] = 0;
-    out[3] = 1;
-    out[4] = 0;
+    out[..5].copy_from_slice(&[1, 2, 0, 1, 0]);
 }
 
 /// Writes the last field.
-pub fn put_last(out: &mut [u8], at: usize, n: u64)
-    requires { (at + 5 ≤ length out.old) × (n < 65536) }
+pub fn put_last(out: &mut [u8], at: usize, n: u16)
+    requires { at + 5 ≤ length out.old }
     ensures { out.new ≡ sets out.old at (last_bytes n) }
 {
     fields::put_byte(out, at, 3);
@@ -491,15 +483,13 @@ fn put_tail(out: &mut [u8], clips: &[u64; 32], records: &[u64])
 {
     let n = records.len() / 5;
     let mut at: usize = 5;
-    let mut i: usize = 0;
-    while i < n {
+    for i in 0..n {
         let x = timeline::row_at(records, i);
         let more = fields::carried(x.kind) as usize;
         put_command(out, at, clips, x);
         at += 20 + more;
-        i += 1;
     }
-    put_last(out, at, n as u64);
+    put_last(out, at, n as u16);
 }
 
 /// Writes the file of a list of records in which none is at fault.

@@ -18,7 +18,7 @@ loop-i-init c =
     let p = c.requires in
     let e : length a.records.now / 5 - 0 ≡ length a.records.now / 5 = omega arith in
     let r = p.room in
-    (search rules, refl, rw e (omega arith), rw e refl)
+    (refl, rw e (omega arith), rw e refl)
 
 pub put_command-requires : goal.put_command-requires
 put_command-requires c =
@@ -57,7 +57,7 @@ loop-i-preserved c =
     let h = c.loop-i-test.true in
     let s = size_next a.records.now l.i n h in
     let e : c.carried-more.result ≡ carried (row_at a.records.now l.i).kind = c.carried-more.ensures ∙ ap (λ (r : Row). carried r.kind) c.row_at-x.ensures in
-    (omega arith, search rules, omega arith, rw (c.put_command.ensures, e, c.row_at-x.ensures) (tail_next a.clips.now a.records.now l.out l.at l.i n h ∙ l.invariant.3))
+    (search rules, omega arith, rw (c.put_command.ensures, e, c.row_at-x.ensures) (tail_next a.clips.now a.records.now l.out l.at l.i n h ∙ l.invariant.2))
 
 pub returns : goal.returns
 unfolding tail_bytes rows_from
@@ -65,4 +65,4 @@ returns c =
     let a = c.args in
     let l = c.loop-i in
     let z : length a.records.now / 5 - l.i ≡ 0 = omega arith in
-    c.put_last.ensures ∙ (rw z at l.invariant.3)
+    c.put_last.ensures ∙ (rw z at l.invariant.2)
