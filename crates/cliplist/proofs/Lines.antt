@@ -15,9 +15,8 @@ use Rattle.bank.specs.declared.Bank.{Bank}
 use Rattle.bank.specs.Slots.{used_at}
 use Rattle.cliplist.specs.declared.Line.{Line}
 use Rattle.cliplist.specs.declared.Entry.{Entry}
-use Rattle.clips.specs.Open.{no_session}
 use Rattle.cliplist.specs.declared.Listing.{Listing}
-use Rattle.cliplist.specs.declared.Started.{Started}
+use Rattle.std.specs.Prelude.{Some, None}
 use Rattle.cliplist.specs.Start.{takes, spaced, total_of, no_clips, listed_in, bank_of}
 use Rattle.cliplist.specs.Words.{line_at, is_kind, line_reads, entry_at, entries_of, lines_in, is_list, all_lines_fit, session_in, clips_ok, start_of, listing, Lined, clip_fits, clip_more}
 use Rattle.cliplist.proofs.Built.{built}
@@ -58,9 +57,9 @@ fitting x e h =
 -- ---- the lines read so far
 
 -- no line
-pub lined_none : (ws : List ℕ) → (all_lines_fit ws 0 ≡ true) × Lined ws 0 (listing no_clips 0 true)
+pub lined_none : (ws : List ℕ) → Lined ws 0 (Some (listing no_clips 0))
 unfolding all_lines_fit entries_of all_below spaced total_of bank_of
-lined_none ws = (refl, record { ok = refl; bank = λ h. refl; total = λ h. refl })
+lined_none ws = (refl, refl, refl)
 
 -- lines that fit can all be read
 pub fit_reads : (ws : List ℕ) (n : ℕ) → all_lines_fit ws n ≡ true → all_below n (λ i. line_reads (line_at ws i)) ≡ true
@@ -111,32 +110,25 @@ fit_never ws n (suc k) b h = go (lt_or_le n (suc k)) (fit_never ws n k)
     go (inr q) ih = let z : n ≡ suc k = omega arith in rw (← z) h
 
 -- so a reading that stops there has read all
-pub lined_stop : (ws : List ℕ) (n k : ℕ) → n ≤ k → (x : Listing) → Lined ws n x → x.ok ≡ false → Lined ws k x
-lined_stop ws n k b x o f =
-    let never-fit : all_lines_fit ws k ≡ false = fit_never ws n k b (sym o.ok ∙ f) in
-    record { ok = f ∙ sym never-fit; bank = λ h. absurd (never (sym h ∙ never-fit)); total = λ h. absurd (never (sym h ∙ never-fit)) }
+pub lined_stop : (ws : List ℕ) (n k : ℕ) → n ≤ k → Lined ws n None → Lined ws k None
+lined_stop ws n k b f = fit_never ws n k b f
 
 -- ---- one line more
 
 -- a line that cannot be read
-pub lined_not : (ws : List ℕ) (i : ℕ) (b : Bank) (total : ℕ) → line_reads (line_at ws i) ≡ false → Lined ws (suc i) (listing b total false)
-lined_not ws i b total r =
-    let f : all_lines_fit ws (suc i) ≡ false = not_fit in
-    record { ok = sym f; bank = λ h. absurd (never (sym h ∙ f)); total = λ h. absurd (never (sym h ∙ f)) }
+pub lined_not : (ws : List ℕ) (i : ℕ) → line_reads (line_at ws i) ≡ false → Lined ws (suc i) None
+lined_not ws i r = go (two_ways (all_lines_fit ws (suc i)))
   where
-    not_fit : all_lines_fit ws (suc i) ≡ false
-    not_fit = go (two_ways (all_lines_fit ws (suc i)))
-      where
-        go : (all_lines_fit ws (suc i) ≡ true) ⊎ (all_lines_fit ws (suc i) ≡ false) → all_lines_fit ws (suc i) ≡ false
-        go (inl y) = absurd (never (sym (all_at (λ i. line_reads (line_at ws i)) (suc i) i (fit_reads ws (suc i) y) (omega arith)) ∙ r))
-        go (inr y) = y
+    go : (all_lines_fit ws (suc i) ≡ true) ⊎ (all_lines_fit ws (suc i) ≡ false) → all_lines_fit ws (suc i) ≡ false
+    go (inl y) = absurd (never (sym (all_at (λ i. line_reads (line_at ws i)) (suc i) i (fit_reads ws (suc i) y) (omega arith)) ∙ r))
+    go (inr y) = y
 
 tests : (a b c : Bool) → (a && b && true) && c ≡ a && b && c
 tests true true c = refl
 tests true false c = refl
 tests false b c = refl
 
-module _ (ws : List ℕ) (i : ℕ) (x : Listing) (fit : all_lines_fit ws i ≡ true) (o : Lined ws i x) (r : line_reads (line_at ws i) ≡ true) where
+module _ (ws : List ℕ) (i : ℕ) (x : Listing) (o : Lined ws i (Some x)) (r : line_reads (line_at ws i) ≡ true) where
   abbrev e : Entry
   e = entry_at ws i
 
@@ -148,14 +140,14 @@ module _ (ws : List ℕ) (i : ℕ) (x : Listing) (fit : all_lines_fit ws i ≡ t
   unfolding clip_fits
   fit_more =
       fit_step ws i
-      ∙ rw (fit_reads ws i fit, r, fit_own ws i fit, o.bank fit, o.total fit, (built l (fit_own ws i fit)).marks e.handle.slot)
+      ∙ rw (fit_reads ws i o.0, r, fit_own ws i o.0, o.1, o.2, (built l (fit_own ws i o.0)).marks e.handle.slot)
       (tests (ltb e.handle.slot 32) (not (takes l e.handle.slot)) (leb (total_of l + e.frames) 33554432))
 
-  taken : clip_fits x e ≡ true → clip_more x e ≡ listing (listed_in x.bank e x.total) (x.total + e.frames) true
+  taken : clip_fits x e ≡ true → clip_more x e ≡ Some (listing (listed_in x.bank e x.total) (x.total + e.frames))
   unfolding clip_more
   taken q = rw q
 
-  refused : clip_fits x e ≡ false → clip_more x e ≡ listing x.bank x.total false
+  refused : clip_fits x e ≡ false → clip_more x e ≡ None
   unfolding clip_more
   refused q = rw q
 
@@ -164,8 +156,8 @@ module _ (ws : List ℕ) (i : ℕ) (x : Listing) (fit : all_lines_fit ws i ≡ t
   lined_more = go (two_ways (clip_fits x e))
     where
       go : (clip_fits x e ≡ true) ⊎ (clip_fits x e ≡ false) → Lined ws (suc i) (clip_more x e)
-      go (inl q) = rw (taken q) (record { ok = sym (fit_more ∙ q); bank = λ h. rw (o.bank fit, o.total fit); total = λ h. rw (o.total fit) })
-      go (inr q) = let f : all_lines_fit ws (suc i) ≡ false = fit_more ∙ q in rw (refused q) (record { ok = sym f; bank = λ h. absurd (never (sym h ∙ f)); total = λ h. absurd (never (sym h ∙ f)) })
+      go (inl q) = rw (taken q) (fit_more ∙ q, rw (o.1, o.2), rw o.2)
+      go (inr q) = rw (refused q) (fit_more ∙ q)
 
 -- ---- the whole list
 
@@ -179,11 +171,11 @@ pub fit_first : (ws : List ℕ) → is_list ws ≡ true → all_lines_fit ws (li
 fit_first ws h f = let n = list_long ws h in all_at (λ i. line_reads (line_at ws i)) (lines_in ws) 0 (fit_reads ws (lines_in ws) f) (omega arith)
 
 -- what a refused list gives,
-pub start_refused : (m : ℕ) (ws : List ℕ) → clips_ok m ws ≡ false → ◌≡◌ {A = Started} (record { ok = false; session = no_session }) (start_of m ws)
+pub start_refused : (m : ℕ) (ws : List ℕ) → clips_ok m ws ≡ false → None ≡ start_of m ws
 unfolding start_of
 start_refused m ws e = rw e
 
 -- and an accepted one
-pub start_accepted : (m : ℕ) (ws : List ℕ) → clips_ok m ws ≡ true → ◌≡◌ {A = Started} (record { ok = true; session = session_in m ws }) (start_of m ws)
+pub start_accepted : (m : ℕ) (ws : List ℕ) → clips_ok m ws ≡ true → Some (session_in m ws) ≡ start_of m ws
 unfolding start_of
 start_accepted m ws e = rw e

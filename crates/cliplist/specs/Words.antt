@@ -1,16 +1,14 @@
 -- The clip list as words, six for each line. Definitions only.
-use Rattle.std.specs.Prelude.{ℕ, zero, suc, ◌+◌, ◌*◌, ◌/◌, ◌%◌, ◌^◌, ◌<◌, ◌≡◌, Bool, true, false, not, ◌&&◌, ◌||◌, cond, List, [], ◌∷◌, leb, ltb, eqb, length, get_or, replicate}
+use Rattle.std.specs.Prelude.{Option, Some, None, ℕ, zero, suc, ◌+◌, ◌*◌, ◌/◌, ◌%◌, ◌^◌, ◌<◌, ◌≡◌, Bool, true, false, not, ◌&&◌, ◌||◌, cond, List, [], ◌∷◌, leb, ltb, eqb, length, get_or, replicate}
 use Rattle.counts.specs.Below.{all_below}
 use Rattle.bank.specs.declared.Kind.{Kind}
 use Rattle.bank.specs.declared.Bank.{Bank}
 use Rattle.bank.specs.Slots.{used_at}
 use Rattle.session.specs.declared.Session.{Session}
 use Rattle.session.specs.WellFormed.{well_formed}
-use Rattle.clips.specs.Open.{no_session}
 use Rattle.cliplist.specs.declared.Line.{Line}
 use Rattle.cliplist.specs.declared.Entry.{Entry}
 use Rattle.cliplist.specs.declared.Listing.{Listing}
-use Rattle.cliplist.specs.declared.Started.{Started}
 use Rattle.cliplist.specs.Start.{HasList, spaced, total_of, listed_in, bank_of, made_of}
 
 -- ---- lines
@@ -78,9 +76,9 @@ session_in mode ws = made_of mode (entry_at ws 0) (entries_in ws)
 unfoldable pub clips_ok : ℕ → List ℕ → Bool
 clips_ok mode ws = is_list ws && all_lines_fit ws (lines_in ws) && well_formed (session_in mode ws) (replicate 1280 0) []
 
--- what making the session gives: it, or that no session has the list
-unfoldable pub start_of : ℕ → List ℕ → Started
-start_of mode ws = record { ok = clips_ok mode ws; session = cond (clips_ok mode ws) (session_in mode ws) no_session }
+-- what making the session gives: it, or none if no session has the list
+unfoldable pub start_of : ℕ → List ℕ → Option Session
+start_of mode ws = cond (clips_ok mode ws) (Some (session_in mode ws)) None
 
 -- words that are a list: whole lines, at least one, each of a known kind and in a slot of its own
 pub record Lines (ws : List ℕ) : Type 0 where
@@ -105,19 +103,18 @@ ListRefused = (mode : ℕ) (ws : List ℕ) → clips_ok mode ws ≡ false → Li
 -- ---- line by line
 
 -- clips that were listed, with the frames of all
-abbrev pub listing : Bank → ℕ → Bool → Listing
-listing b total ok = record { bank = b; total = total; ok = ok }
+abbrev pub listing : Bank → ℕ → Listing
+listing b total = record { bank = b; total = total }
 
--- the first n lines: whether they fit, and if they do, their clips and the frames of all
-pub record Lined (ws : List ℕ) (n : ℕ) (x : Listing) : Type 0 where
-  pub ok : x.ok ≡ all_lines_fit ws n
-  pub bank : all_lines_fit ws n ≡ true → x.bank ≡ bank_of (entries_of ws n)
-  pub total : all_lines_fit ws n ≡ true → x.total ≡ total_of (entries_of ws n)
+-- the first n lines: their clips and the frames of all if they fit, else none
+abbrev pub Lined : List ℕ → ℕ → Option Listing → Type 0
+Lined ws n None = all_lines_fit ws n ≡ false
+Lined ws n (Some x) = (all_lines_fit ws n ≡ true) × (x.bank ≡ bank_of (entries_of ws n)) × (x.total ≡ total_of (entries_of ws n))
 
 -- one clip more has a slot of its own and frames that a pool can hold
 unfoldable pub clip_fits : Listing → Entry → Bool
 clip_fits x e = ltb e.handle.slot 32 && not (used_at x.bank.used e.handle.slot) && leb (x.total + e.frames) 33554432
 
--- one clip more, or a refusal
-unfoldable pub clip_more : Listing → Entry → Listing
-clip_more x e = cond (clip_fits x e) (listing (listed_in x.bank e x.total) (x.total + e.frames) true) (listing x.bank x.total false)
+-- one clip more, if it fits
+unfoldable pub clip_more : Listing → Entry → Option Listing
+clip_more x e = cond (clip_fits x e) (Some (listing (listed_in x.bank e x.total) (x.total + e.frames))) None

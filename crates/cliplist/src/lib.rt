@@ -1,11 +1,9 @@
 //! A list of the clips that a session has: the session that is made of it, with no sample loaded.
 #![tactic(auto)]
 
-ghost use Rattle.std.specs.Prelude.{◌≡◌, true, false, not, ◌&&◌, [], ◌+◌, ◌*◌, ◌<◌, ◌≤◌, ltb, length, replicate};
+ghost use Rattle.std.specs.Prelude.{Some, ◌≡◌, true, false, not, ◌&&◌, [], ◌+◌, ◌*◌, ◌<◌, ◌≤◌, ltb, length, replicate};
 ghost use Rattle.bank.specs.Slots.{used_at};
 ghost use Rattle.session.specs.WellFormed.{well_formed};
-ghost use Rattle.clips.specs.Open.{no_session};
-ghost use Rattle.cliplist.specs.declared.Started.{Started};
 ghost use Rattle.cliplist.specs.Start.{listed_in, no_clips};
 ghost use Rattle.cliplist.specs.Words.{line_at, kind_of, line_reads, entry_of, lines_in, is_list, all_lines_fit, session_in, Lined, clip_fits, clip_more, start_of};
 
@@ -34,19 +32,11 @@ pub struct Entry {
     pub frames: u64,
 }
 
-/// The clips listed so far, side by side in a pool, with the frames of all; or a line that no session has.
+/// The clips listed so far, side by side in a pool, with the frames of all.
 #[derive(Clone, Copy)]
 pub struct Listing {
     pub bank: Bank,
     pub total: u64,
-    pub ok: bool,
-}
-
-/// The session of a clip list, if there is one.
-#[derive(Clone, Copy)]
-pub struct Started {
-    pub ok: bool,
-    pub session: Session,
 }
 
 /// The words of a line.
@@ -162,64 +152,45 @@ fn listed_in(b: Bank, e: Entry, start: u64) -> Bank
     d
 }
 
-/// One clip more, behind the others, or a refusal.
-fn list_clip(x: Listing, e: Entry) -> Listing
+/// One clip more, behind the others, if it fits.
+fn list_clip(x: Listing, e: Entry) -> Option<Listing>
     ensures { result ≡ clip_more x e }
 {
+    if !clip_fits(x, e) {
+        return None;
+    }
     let b = x.bank;
-    if clip_fits(x, e) {
-        let total = x.total + e.frames;
-        let bank = listed_in(b, e, x.total);
-        return Listing {
-            bank: bank,
-            total: total,
-            ok: true,
-        };
-    }
-    Listing {
-        bank: b,
-        total: x.total,
-        ok: false,
-    }
+    let total = x.total + e.frames;
+    let bank = listed_in(b, e, x.total);
+    Some(Listing { bank, total })
 }
 
 /// One line more.
-fn list_line(x: Listing, words: &[u64], i: usize) -> Listing
-    requires { (i * 6 + 6 ≤ length words.now) × (all_lines_fit words.now i ≡ true) × Lined words.now i x }
+fn list_line(x: Listing, words: &[u64], i: usize) -> Option<Listing>
+    requires { (i * 6 + 6 ≤ length words.now) × Lined words.now i (Some x) }
     ensures { Lined words.now (i + 1) result }
 {
-    let b = x.bank;
     let line = line_at(words, i);
     if line_reads(line) {
         let e = entry_of(line);
         return list_clip(x, e);
     }
-    Listing {
-        bank: b,
-        total: x.total,
-        ok: false,
-    }
+    None
 }
 
-/// Reads a list up to its first line that does not fit.
-fn read_lines(words: &[u64], lines: usize) -> Listing
+/// Reads a list, if all its lines fit.
+fn read_lines(words: &[u64], lines: usize) -> Option<Listing>
     requires { lines * 6 ≤ length words.now }
     ensures { Lined words.now lines result }
 {
     let mut x = Listing {
         bank: no_clips(),
         total: 0,
-        ok: true,
     };
-    let mut i: usize = 0;
-    while i < lines {
-        x = list_line(x, words, i);
-        if !x.ok {
-            return x;
-        }
-        i += 1;
+    for i in 0..lines {
+        x = list_line(x, words, i)?;
     }
-    x
+    Some(x)
 }
 
 // ---- the session
@@ -240,20 +211,9 @@ fn is_formed(s: Session) -> bool
     session::well_formed(s, &queue, &capture)
 }
 
-/// No session has the list.
-fn no_start() -> Started
-    ensures { result ≡ record { ok = false; session = no_session } }
-{
-    let session = clips::no_session();
-    Started {
-        ok: false,
-        session: session,
-    }
-}
-
 /// The session of a list whose lines fit: its first clip is the song and gives the rate.
 fn session_of(mode: u32, words: &[u64], listing: Listing) -> Session
-    requires { (is_list words.now ≡ true) × (all_lines_fit words.now (lines_in words.now) ≡ true) × Lined words.now (lines_in words.now) listing }
+    requires { (is_list words.now ≡ true) × Lined words.now (lines_in words.now) (Some listing) }
     ensures { result ≡ session_in mode words.now }
 {
     let line = line_at(words, 0);
@@ -272,22 +232,16 @@ fn session_of(mode: u32, words: &[u64], listing: Listing) -> Session
 
 /// The session of a clip list, six words a line: the clips listed and no other, the first its opening song. A list that no well
 /// formed session has is refused.
-pub fn start(mode: u32, words: &[u64]) -> Started
+pub fn start(mode: u32, words: &[u64]) -> Option<Session>
     ensures { result ≡ start_of mode words.now }
 {
     if !is_list(words) {
-        return no_start();
+        return None;
     }
-    let listing = read_lines(words, words.len() / WORDS);
-    if !listing.ok {
-        return no_start();
-    }
+    let listing = read_lines(words, words.len() / WORDS)?;
     let session = session_of(mode, words, listing);
     if !is_formed(session) {
-        return no_start();
+        return None;
     }
-    Started {
-        ok: true,
-        session: session,
-    }
+    Some(session)
 }

@@ -6,15 +6,15 @@ use Rattle.cliplist.proofs.Lines.{fitting}
 use Rattle.cliplist.proofs.list_clip.Goals as goal
 
 pub overflow_add-total : goal.overflow_add-total
-overflow_add-total c = let a = c.args in let f = (fitting a.x a.e (sym c.clip_fits.ensures ∙ c.if-clip_fits.true)).held in omega (arith, f)
+overflow_add-total c = let a = c.args in let f = (fitting a.x a.e (sym c.clip_fits.ensures ∙ c.if-not-clip_fits.false)).held in omega (arith, f)
 
 pub listed_in-bank-requires : goal.listed_in-bank-requires
-listed_in-bank-requires c = let a = c.args in let f = fitting a.x a.e (sym c.clip_fits.ensures ∙ c.if-clip_fits.true) in (f.among, f.free)
+listed_in-bank-requires c = let a = c.args in let f = fitting a.x a.e (sym c.clip_fits.ensures ∙ c.if-not-clip_fits.false) in (f.among, f.free)
 
-pub returns-then-clip_fits : goal.returns-then-clip_fits
+pub returns-then-not-clip_fits : goal.returns-then-not-clip_fits
 unfolding clip_more
-returns-then-clip_fits c = rw (sym c.clip_fits.ensures ∙ c.if-clip_fits.true, c.listed_in-bank.ensures)
+returns-then-not-clip_fits c = rw (sym c.clip_fits.ensures ∙ c.if-not-clip_fits.true)
 
 pub returns : goal.returns
 unfolding clip_more
-returns c = rw (sym c.clip_fits.ensures ∙ c.if-clip_fits.false)
+returns c = rw (sym c.clip_fits.ensures ∙ c.if-not-clip_fits.false, c.listed_in-bank.ensures)

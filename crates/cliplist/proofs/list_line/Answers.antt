@@ -13,8 +13,8 @@ pub returns-then-line_reads : goal.returns-then-line_reads
 returns-then-line_reads c =
     let line = c.line_at-line.ensures in
     let r : line_reads (line_at c.args.words.now c.args.i) ≡ true = rw line at (sym c.line_reads.ensures ∙ c.if-line_reads.true) in
-    rw (c.list_clip.ensures, c.entry_of-e.ensures, line, add-one) (lined_more c.args.words.now c.args.i c.args.x c.requires.1 c.requires.2 r)
+    rw (c.list_clip.ensures, c.entry_of-e.ensures, line, add-one) (lined_more c.args.words.now c.args.i c.args.x c.requires.1 r)
 
 pub returns : goal.returns
 returns c =
-    rw add-one (lined_not c.args.words.now c.args.i c.args.x.bank c.args.x.total (rw c.line_at-line.ensures at (sym c.line_reads.ensures ∙ c.if-line_reads.false)))
+    rw add-one (lined_not c.args.words.now c.args.i (rw c.line_at-line.ensures at (sym c.line_reads.ensures ∙ c.if-line_reads.false)))
