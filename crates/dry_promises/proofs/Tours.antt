@@ -6,7 +6,9 @@ use Rattle.tourfile.specs.declared.Fault.{Fault}
 use Rattle.tourfile.specs.Answer.{fault_number}
 use Rattle.host.proofs.Round.{state_back, loop_back}
 use Rattle.dryrun.specs.declared.DryRefusal.{DryRefusal}
-use Rattle.dryrun.specs.declared.DryAnswer.{DryAnswer}
+use Rattle.std.specs.Prelude.{Result, Ok, Err}
+use Rattle.dryrun.specs.declared.DryDone.{DryDone}
+use Rattle.dryrun.specs.declared.DryError.{DryError}
 use Rattle.dryrun.specs.Call.{dry_number, says_dry, dry_run_of}
 use Rattle.host_dry.specs.Answers.{dry_run_by, says_dry_by}
 use Rattle.host_dry.specs.Calls.{dry_run_host}
@@ -37,9 +39,9 @@ refusal_some (DryRefusal.Tour x) = number_some x
 refusal_some DryRefusal.Commands = refl
 refusal_some DryRefusal.Clock = refl
 
-dry_says : (a : DryAnswer) → says_dry_by (dry_run_by a) ≡ says_dry a
-dry_says (DryAnswer.Done d) = rw (state_back d.run.dry.playhead.transport.state, loop_back d.run.dry.playhead.transport.looped) refl
-dry_says (DryAnswer.Refused x at) = rw (refusal_some x) refl
+dry_says : (a : Result DryDone DryError) → says_dry_by (dry_run_by a) ≡ says_dry a
+dry_says (Ok d) = rw (state_back d.run.dry.playhead.transport.state, loop_back d.run.dry.playhead.transport.looped) refl
+dry_says (Err e) = rw (refusal_some e.refusal) refl
 
 pub host_dry_runs : HostDryRuns
 unfolding dry_run_host

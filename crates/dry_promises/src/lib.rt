@@ -5,11 +5,8 @@
 ghost use Rattle.std.specs.Prelude.{◌≡◌};
 ghost use Rattle.dryrun.specs.Call.{lent};
 
-use dryrun::DryAnswer;
-
-/// What both calls answered.
-#[derive(Clone, Copy)]
-pub struct DryTwice(pub DryAnswer, pub DryAnswer);
+use dryrun::{DryDone, DryError};
+use twice::Twice;
 
 pub fn dry_run(
     mode: u32,
@@ -27,7 +24,7 @@ pub fn dry_run(
     reasons2: &mut [u64; 256],
     queue2: &mut [u64; 1280],
     sheet2: &mut [u64; 2560],
-) -> DryTwice
+) -> Twice<Result<DryDone, DryError>>
     requires { (clips.now ≡ clips2.now) × (file.now ≡ file2.now) × (blocks.now ≡ blocks2.now) × (lent records.old reasons.old queue.old sheet.old ≡ lent records2.old reasons2.old queue2.old sheet2.old) }
     ensures { (result.0 ≡ result.1) × (lent records.new reasons.new queue.new sheet.new ≡ lent records2.new reasons2.new queue2.new sheet2.new) }
 {
@@ -35,5 +32,5 @@ pub fn dry_run(
     let other = dryrun::dry_run(
         mode, clips2, file2, blocks2, records2, reasons2, queue2, sheet2,
     );
-    DryTwice(one, other)
+    Twice(one, other)
 }

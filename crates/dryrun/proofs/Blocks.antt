@@ -9,35 +9,35 @@ use borrow.Author.Tests.{le-leb, lt-leb, leb-true, leb-false}
 use lib.Dec.{leb}
 use lib.ListN.{length, drop, get_or, length-drop}
 use lib.Seq.{drop-cons}
-use Rattle.dryrun.specs.declared.Sum.{Sum}
-use Rattle.dryrun.specs.Blocks.{frames_in, summed, sum_to}
+use Rattle.std.specs.Prelude.{Some, None, unwrap_or}
+use Rattle.dryrun.specs.Blocks.{frames_in, sum_to}
 
 -- ---- the sum
 
 module _ (n : ℕ) where
-  pub sum_within : n ≤ 2 ^ 62 → summed true n ≡ sum_to n
+  pub sum_within : n ≤ 2 ^ 62 → Some n ≡ sum_to n
   unfolding sum_to
   sum_within h = rw (le-leb n (2 ^ 62) h) refl
 
-  pub sum_past : 2 ^ 62 < n → summed false 0 ≡ sum_to n
+  pub sum_past : 2 ^ 62 < n → None ≡ sum_to n
   unfolding sum_to
   sum_past h = rw (lt-leb n (2 ^ 62) h) refl
 
   -- a sum that is there is all the frames, and ends by 2^62
-  pub sum_taken : (sum_to n).ok ≡ true → (n ≤ 2 ^ 62) × ((sum_to n).frames ≡ n)
+  pub sum_taken : (k : ℕ) → Some k ≡ sum_to n → (n ≤ 2 ^ 62) × (k ≡ n)
   unfolding sum_to
-  sum_taken = go (leb n (2 ^ 62)) refl
+  sum_taken k = go (leb n (2 ^ 62)) refl
     where
-      go : (b : Bool) → leb n (2 ^ 62) ≡ b → (cond b (summed true n) (summed false 0)).ok ≡ true → (n ≤ 2 ^ 62) × ((cond b (summed true n) (summed false 0)).frames ≡ n)
-      go true e t = (leb-true n (2 ^ 62) e, refl)
+      go : (b : Bool) → leb n (2 ^ 62) ≡ b → Some k ≡ cond b (Some n) None → (n ≤ 2 ^ 62) × (k ≡ n)
+      go true e t = (leb-true n (2 ^ 62) e, ap (λ o. unwrap_or o 0) t)
       go false e t = let z : ◌≡◌ {A = ℕ} 0 1 = cc in absurd (omega arith)
 
   -- one that is not goes past it
-  pub sum_refused : (sum_to n).ok ≡ false → 2 ^ 62 < n
+  pub sum_refused : None ≡ sum_to n → 2 ^ 62 < n
   unfolding sum_to
   sum_refused = go (leb n (2 ^ 62)) refl
     where
-      go : (b : Bool) → leb n (2 ^ 62) ≡ b → (cond b (summed true n) (summed false 0)).ok ≡ false → 2 ^ 62 < n
+      go : (b : Bool) → leb n (2 ^ 62) ≡ b → None ≡ cond b (Some n) None → 2 ^ 62 < n
       go true e t = let z : ◌≡◌ {A = ℕ} 0 1 = cc in absurd (omega arith)
       go false e t = leb-false n (2 ^ 62) e
 
@@ -77,17 +77,16 @@ pub frames_none : (ws : List ℕ) (i : ℕ) → length ws ≤ i + 1 → frames_i
 frames_none ws i h = few (drop i ws) (simp length-drop (omega arith))
 
 -- a pair more: past 2^62 the blocks are refused, else the sum goes on behind it
-module _ (ws : List ℕ) (k sum : ℕ) (there : k * 2 + 1 < length ws) (before : sum + frames_in (drop (k * 2) ws) ≡ frames_in ws)
-    (r : Sum) (e : r ≡ sum_to (sum + get_or ws (k * 2) 0 * get_or ws (k * 2 + 1) 0)) where
-  pub pair_past : r.ok ≡ false → r ≡ sum_to (frames_in ws)
-  pair_past t =
+module _ (ws : List ℕ) (k sum : ℕ) (there : k * 2 + 1 < length ws) (before : sum + frames_in (drop (k * 2) ws) ≡ frames_in ws) where
+  pub pair_past : None ≡ sum_to (sum + get_or ws (k * 2) 0 * get_or ws (k * 2 + 1) 0) → None ≡ sum_to (frames_in ws)
+  pair_past e =
       let f = frames_pair ws k there in
-      let p = sum_refused (sum + get_or ws (k * 2) 0 * get_or ws (k * 2 + 1) 0) (ap (λ (x : Sum). x.ok) (sym e) ∙ t) in
-      e ∙ sym (sum_past (sum + get_or ws (k * 2) 0 * get_or ws (k * 2 + 1) 0) p) ∙ sum_past (frames_in ws) (omega arith)
+      let p = sum_refused (sum + get_or ws (k * 2) 0 * get_or ws (k * 2 + 1) 0) e in
+      sum_past (frames_in ws) (omega arith)
 
-  pub pair_within : r.ok ≡ true → (r.frames ≤ 2 ^ 62) × (r.frames + frames_in (drop ((k + 1) * 2) ws) ≡ frames_in ws)
-  pair_within t =
+  pub pair_within : (r : ℕ) → Some r ≡ sum_to (sum + get_or ws (k * 2) 0 * get_or ws (k * 2 + 1) 0)
+      → (r ≤ 2 ^ 62) × (r + frames_in (drop ((k + 1) * 2) ws) ≡ frames_in ws)
+  pair_within r e =
       let f = frames_pair ws k there in
-      let p = sum_taken (sum + get_or ws (k * 2) 0 * get_or ws (k * 2 + 1) 0) (ap (λ (x : Sum). x.ok) (sym e) ∙ t) in
-      let g : r.frames ≡ sum + get_or ws (k * 2) 0 * get_or ws (k * 2 + 1) 0 = ap (λ (x : Sum). x.frames) e ∙ p.1 in
+      let p = sum_taken (sum + get_or ws (k * 2) 0 * get_or ws (k * 2 + 1) 0) r e in
       (omega arith, omega arith)

@@ -11,7 +11,7 @@ use lib.ListN.{length, take}
 use lib.Seq.{length-take-le}
 use lib.Ieee.{Float}
 use borrow.Author.Tests.{leb-true}
-use Rattle.std.specs.Prelude.{Ok, Err}
+use Rattle.std.specs.Prelude.{Result, Ok, Err}
 use Rattle.counts.proofs.Truth.{two_ways}
 use Rattle.laws.specs.Queue.{Each}
 use Rattle.laws.specs.Block.{Ran}
@@ -32,7 +32,7 @@ use Rattle.clips.specs.Own.{clips_of}
 use Rattle.clips.proofs.Own.{own_same}
 use Rattle.submission.specs.Replay.{Replaying, replay_row, replayed, replay_done, replay_of}
 use Rattle.submission.proofs.Reported.{replay_done_law}
-use Rattle.cliplist.specs.Words.{entry_at, entries_in, session_in, clips_ok, start_of}
+use Rattle.cliplist.specs.Words.{entry_at, entries_in, session_in, clips_ok}
 use Rattle.cliplist.proofs.Accepted.{made_formed, made_starts}
 use Rattle.cliplist.proofs.Same.{has_same}
 use Rattle.leaps.specs.declared.Dry.{Dry}
@@ -43,10 +43,10 @@ use Rattle.leaps.proofs.Equal.{dry_run_law}
 use Rattle.leaps.proofs.Ready.{run_dry}
 use Rattle.dryrun.specs.declared.DryRefusal.{DryRefusal}
 use Rattle.dryrun.specs.declared.DryDone.{DryDone}
-use Rattle.dryrun.specs.declared.DryAnswer.{DryAnswer}
+use Rattle.dryrun.specs.declared.DryError.{DryError}
 use Rattle.dryrun.specs.Blocks.{frames_in}
 use Rattle.dryrun.specs.Replay.{reasons_into}
-use Rattle.dryrun.specs.Call.{Lent, lent, records_ran, by_reader, tour_ran, dry_run_of}
+use Rattle.dryrun.specs.Call.{Lent, lent, records_ran, refused_at, tour_ran, dry_run_of}
 use Rattle.dryrun.specs.Plays.{StartsWith, Reads, Plays, Promised, DryPlays}
 use Rattle.dryrun.proofs.Alike.{starts_alike}
 
@@ -134,32 +134,26 @@ module _ (mode : ℕ) (clips file blocks : List ℕ) (x : Lent) (long : length x
           }
 
     -- where the blocks end in time
-    records_promised : frames_in blocks ≤ 2 ^ 62 → let y : DryAnswer × Lent = records_ran s n (frames_in blocks) (lent words x.reasons x.queue x.sheet) in
-        Promised mode clips file blocks x y.0 y.1
+    records_promised : frames_in blocks ≤ 2 ^ 62 → let y : DryDone × Lent = records_ran s n (frames_in blocks) (lent words x.reasons x.queue x.sheet) in
+        Promised mode clips file blocks x (Ok y.0) y.1
     unfolding records_ran
     records_promised bound = λ t p c pool outs full starts even sum. (reads bound t p c pool outs full starts even sum, plays bound t p c pool outs full starts even sum)
 
   -- ---- what the reader refuses, and 4, change nothing
 
-  reader_promised : (f : Fault) (at : ℕ) → Promised mode clips file blocks x (by_reader f at) x
-  reader_promised f at = go (eqb (fault_number f) (fault_number Fault.ListTooShort))
-    where
-      go : (b : Bool) → Promised mode clips file blocks x (cond b (DryAnswer.Refused DryRefusal.Commands 0) (DryAnswer.Refused (DryRefusal.Tour f) at)) x
-      go true = refl
-      go false = refl
-
   tour_promised : (a : TourAnswer) → read_of (clips_of s.bank) file 1280 ≡ a → Promised mode clips file blocks x (tour_ran s file blocks x a).0 (tour_ran s file blocks x a).1
-  tour_promised (Err r) e = reader_promised r.fault r.place
+  tour_promised (Err r) e = refl
   tour_promised (Ok n) e = go (leb (frames_in blocks) (2 ^ 62)) refl
     where
       go : (b : Bool) → leb (frames_in blocks) (2 ^ 62) ≡ b
-          → let y : DryAnswer × Lent = cond b (records_ran s n (frames_in blocks) (lent (words n e) x.reasons x.queue x.sheet)) (DryAnswer.Refused DryRefusal.Clock 0, x) in Promised mode clips file blocks x y.0 y.1
+          → let z : DryDone × Lent = records_ran s n (frames_in blocks) (lent (words n e) x.reasons x.queue x.sheet) in
+          let y : Result DryDone DryError × Lent = cond b (Ok z.0, z.1) (Err (refused_at DryRefusal.Clock 0), x) in Promised mode clips file blocks x y.0 y.1
       go true h = records_promised n e (leb-true (frames_in blocks) (2 ^ 62) h)
       go false h = refl
 
 -- THE DRY RUN. What it says is what any full session does that starts with the clips.
 pub dry_plays : DryPlays
-unfolding dry_run_of start_of
+unfolding dry_run_of
 dry_plays mode clips file blocks x long size =
     ⊎_elim
     (λ (ok : clips_ok mode clips ≡ true). rw ok (tour_promised mode clips file blocks x long size ok (read_of (clips_of (session_in mode clips).bank) file 1280) refl))

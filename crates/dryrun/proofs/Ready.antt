@@ -1,6 +1,7 @@
 -- A fresh session can go on after its replay. Assumes nothing.
 use mathlib.Core.Path.{◌≡◌, refl, ap}
-use mathlib.Core.Bool.{true}
+use mathlib.Core.Bool.{Bool, true, false, cond}
+use Rattle.std.specs.Prelude.{Some, None, unwrap_or}
 use mathlib.Core.List.{List, []}
 use Prim.Native.Nat.{ℕ, ◌^◌, ◌≤◌}
 use native.Mathlib.Omega.{arith}
@@ -10,7 +11,7 @@ use Rattle.session.proofs.Parts.{parts}
 use Rattle.submission.specs.Replay.{Replaying, replayed}
 use Rattle.submission.proofs.Kept.{replayed_well}
 use Rattle.submission.proofs.Leaves.{replayed_leaves}
-use Rattle.cliplist.specs.Words.{clips_ok, start_of}
+use Rattle.cliplist.specs.Words.{clips_ok, session_in, start_of}
 use Rattle.cliplist.proofs.Accepted.{made_formed, made_short}
 use Rattle.leaps.specs.Run.{run_of, Runnable}
 use Rattle.leaps.proofs.Ready.{run_ready}
@@ -30,12 +31,24 @@ replayed_ready s q list f k n few =
     (let x = p.queued in let w = ap (λ y. y.queue) settings in omega (arith, f.holds))
 
 -- the session that is made of an accepted list is fresh
-pub start_fresh : (mode : ℕ) (ws q : List ℕ) → clips_ok mode ws ≡ true → length q ≡ 1280 → Fresh (start_of mode ws).session q
-unfolding start_of
-start_fresh mode ws q ok size =
-    rw ok (record { formed = made_formed mode ws ok q size; holds = refl; clock = refl; short = made_short mode ws ok })
+pub made_fresh : (mode : ℕ) (ws q : List ℕ) → clips_ok mode ws ≡ true → length q ≡ 1280 → Fresh (session_in mode ws) q
+made_fresh mode ws q ok size =
+    record { formed = made_formed mode ws ok q size; holds = refl; clock = refl; short = made_short mode ws ok }
 
--- and whether there is one
-pub start_ok : (mode : ℕ) (ws : List ℕ) → (start_of mode ws).ok ≡ clips_ok mode ws
-unfolding start_of
-start_ok mode ws = refl
+-- and it is the one that is given, if any is
+module _ (mode : ℕ) (ws : List ℕ) where
+  pub start_some : (s : Session) → Some s ≡ start_of mode ws → (clips_ok mode ws ≡ true) × (s ≡ session_in mode ws)
+  unfolding start_of
+  start_some s = go (clips_ok mode ws) refl
+    where
+      go : (b : Bool) → clips_ok mode ws ≡ b → Some s ≡ cond b (Some (session_in mode ws)) None → (clips_ok mode ws ≡ true) × (s ≡ session_in mode ws)
+      go true e t = (e, ap (λ o. unwrap_or o s) t)
+      go false e t = let z : ◌≡◌ {A = ℕ} 0 1 = cc in absurd (omega arith)
+
+  pub start_none : None ≡ start_of mode ws → clips_ok mode ws ≡ false
+  unfolding start_of
+  start_none = go (clips_ok mode ws) refl
+    where
+      go : (b : Bool) → clips_ok mode ws ≡ b → None ≡ cond b (Some (session_in mode ws)) None → clips_ok mode ws ≡ false
+      go true e t = let z : ◌≡◌ {A = ℕ} 0 1 = cc in absurd (omega arith)
+      go false e t = e

@@ -1,5 +1,5 @@
 -- What a dry run promises of the full session. Definitions only.
-use Rattle.std.specs.Prelude.{◌≡◌, false, List, ℕ, ◌*◌, length, take, Float, Ok}
+use Rattle.std.specs.Prelude.{◌≡◌, false, List, ℕ, ◌*◌, length, take, Float, Result, Ok, Err}
 use Rattle.laws.specs.Queue.{Each}
 use Rattle.tourfile.specs.Reader.{read_of, read_into}
 use Rattle.bank.specs.Sample.{frames_of, is_odd}
@@ -14,7 +14,7 @@ use Rattle.leaps.specs.Dry.{dry_of}
 use Rattle.leaps.specs.Run.{written}
 use Rattle.leaps.specs.Equal.{Full, executed_by}
 use Rattle.dryrun.specs.declared.DryDone.{DryDone}
-use Rattle.dryrun.specs.declared.DryAnswer.{DryAnswer}
+use Rattle.dryrun.specs.declared.DryError.{DryError}
 use Rattle.dryrun.specs.Blocks.{frames_in}
 use Rattle.dryrun.specs.Call.{Lent, dry_run_of}
 use Rattle.submission.specs.declared.Report.{Report}
@@ -43,12 +43,12 @@ pub record Plays (x : Lent) (d : DryDone) (y : Lent) (z : Answered Report × Lis
 
 -- done, it holds for every well formed session that starts with the clips and for every list of blocks of those frames, so after each
 -- block of it; refused, every store is as it was
-abbrev pub Promised : ℕ → List ℕ → List ℕ → List ℕ → Lent → DryAnswer → Lent → Type 0
-Promised mode clips file blocks x (DryAnswer.Done d) y =
+abbrev pub Promised : ℕ → List ℕ → List ℕ → List ℕ → Lent → Result DryDone DryError → Lent → Type 0
+Promised mode clips file blocks x (Ok d) y =
     (t : Session) (p c : List ℕ) (pool : List Float) (outs : List (List Float))
     → Full t p c pool → StartsWith mode clips t → Each (λ out. is_odd out ≡ false) outs → frames_of (joined outs) ≡ frames_in blocks
     → Reads file x d y t × Plays x d y (replay_of t p c (tour_of d y)) c pool outs
-Promised mode clips file blocks x (DryAnswer.Refused k at) y = y ≡ x
+Promised mode clips file blocks x (Err e) y = y ≡ x
 
 -- THE PROMISE
 abbrev pub DryPlays : Type 0

@@ -1,7 +1,7 @@
 //! The dry run of a recorded tour: what its commands do, without the sound.
 #![tactic(auto)]
 
-ghost use Rattle.std.specs.Prelude.{◌≡◌, true, List, [], ℕ, ◌+◌, ◌*◌, ◌^◌, ◌≤◌, length};
+ghost use Rattle.std.specs.Prelude.{Result, ◌≡◌, true, List, [], ℕ, ◌+◌, ◌*◌, ◌^◌, ◌≤◌, length};
 ghost use Rattle.timeline.specs.Queue.{stingers};
 ghost use Rattle.session.specs.WellFormed.{well_formed};
 ghost use Rattle.submission.specs.Replay.{standing, weigh_replayed, replayed};
@@ -10,10 +10,11 @@ ghost use Rattle.clips.specs.Own.{clips_of};
 ghost use Rattle.leaps.specs.declared.Run.{Run};
 ghost use Rattle.leaps.specs.Dry.{dry_of};
 ghost use Rattle.leaps.specs.Run.{run_of, ran_from, run_done, Runnable};
-ghost use Rattle.dryrun.specs.declared.DryAnswer.{DryAnswer};
+ghost use Rattle.dryrun.specs.declared.DryDone.{DryDone};
+ghost use Rattle.dryrun.specs.declared.DryError.{DryError};
 ghost use Rattle.dryrun.specs.Replay.{reason_in, reasons_into};
 ghost use Rattle.dryrun.specs.Blocks.{frames_in, sum_to};
-ghost use Rattle.dryrun.specs.Call.{dry_number, Lent, lent, records_ran, by_reader, tour_ran, dry_run_of};
+ghost use Rattle.dryrun.specs.Call.{dry_number, Lent, lent, records_ran, refused_at, tour_ran, dry_run_of};
 ghost use Rattle.dryrun.specs.Ready.{Fresh};
 
 use leaps::{Dry, Run};
@@ -21,7 +22,7 @@ use session::{CLOCK_END, Session};
 use stage::Stage;
 use submission::{ReplayState, Report};
 use timeline::Row;
-use tourfile::Fault;
+use tourfile::{Fault, TourError};
 
 /// What a dry run gives: how many commands the tour has, what the replay did with them, and where the run came to.
 #[derive(Clone, Copy)]
@@ -55,18 +56,37 @@ impl DryRefusal {
     }
 }
 
-/// The answer of a dry run. A refusal has a place, the first byte of the field at fault, else 0.
+/// A refusal of a dry run, and its place: the first byte of the field at fault, else 0.
 #[derive(Clone, Copy)]
-pub enum DryAnswer {
-    Done(DryDone),
-    Refused(DryRefusal, usize),
+pub struct DryError {
+    pub refusal: DryRefusal,
+    pub place: usize,
 }
 
-/// The frames of all blocks together, if they end by clock frame 2^62; else none.
-#[derive(Clone, Copy)]
-pub struct Sum {
-    pub ok: bool,
-    pub frames: u64,
+impl DryError {
+    /// A refusal that has no place.
+    fn nowhere(refusal: DryRefusal) -> DryError
+        ensures { result ≡ refused_at refusal 0 }
+    {
+        DryError { refusal, place: 0 }
+    }
+}
+
+impl From<TourError> for DryError {
+    ghost use Rattle.dryrun.specs.Call.{by_reader};
+
+    ghost from_gives = { λ e r. r ≡ by_reader e };
+
+    /// What the reader refuses. A list of 256 records that is too short is more than 256 commands.
+    fn from(e: TourError) -> DryError {
+        if e.fault.number() == 113 {
+            return DryError::nowhere(DryRefusal::Commands);
+        }
+        DryError {
+            refusal: DryRefusal::Tour(e.fault),
+            place: e.place,
+        }
+    }
 }
 
 // ---- the records
@@ -101,78 +121,48 @@ pub fn rehearse(
         skipped: 0,
     };
     let mut z = ReplayState { session: s, report };
-    let mut i: usize = 0;
-    while i < n {
+    for i in 0..n {
         let x = timeline::row_at(records, i);
         let session = z.session;
         let why = reason(session, queue, x);
         reasons[i] = why;
         z = submission::replay_row(z, queue, x);
-        i += 1;
     }
     z
 }
 
 // ---- the blocks
 
-/// So many times so many frames more.
-fn add_block(sum: u64, times: u64, frames: u64) -> Sum
+/// So many times so many frames more, if they end by clock frame 2^62.
+fn add_block(sum: u64, times: u64, frames: u64) -> Option<u64>
     requires { sum ≤ 2 ^ 62 }
     ensures { result ≡ sum_to (sum + times * frames) }
 {
     if times == 0 {
-        return Sum {
-            ok: true,
-            frames: sum,
-        };
+        return Some(sum);
     }
     let left = CLOCK_END - sum;
     let most = left / times;
     if most < frames {
-        return Sum {
-            ok: false,
-            frames: 0,
-        };
+        return None;
     }
-    Sum {
-        ok: true,
-        frames: sum + times * frames,
-    }
+    Some(sum + times * frames)
 }
 
-/// The frames of all blocks together, as pairs of words: how many times, and how many frames.
-pub fn frames_in(blocks: &[u64]) -> Sum
+/// The frames of all blocks together, as pairs of words, how many times, and how many frames; if they end by clock frame
+/// 2^62.
+pub fn frames_in(blocks: &[u64]) -> Option<u64>
     ensures { result ≡ sum_to (frames_in blocks.now) }
 {
-    let pairs = blocks.len() / 2;
     let mut sum: u64 = 0;
-    let mut k: usize = 0;
-    while k < pairs {
+    for k in 0..blocks.len() / 2 {
         let p = k * 2;
-        let more = add_block(sum, blocks[p], blocks[p + 1]);
-        if !more.ok {
-            return more;
-        }
-        sum = more.frames;
-        k += 1;
+        sum = add_block(sum, blocks[p], blocks[p + 1])?;
     }
-    Sum {
-        ok: true,
-        frames: sum,
-    }
+    Some(sum)
 }
 
 // ---- the run
-
-/// What the reader refuses. A list of 256 records that is too short is more than 256 commands.
-fn by_reader(x: Fault, at: usize) -> DryAnswer
-    ensures { result ≡ by_reader x at }
-{
-    if x.number() == 113 {
-        return DryAnswer::Refused(DryRefusal::Commands, 0);
-    }
-    DryAnswer::Refused(DryRefusal::Tour(x), at)
-}
 
 /// Where a session stands, without its sound.
 fn dry_of(s: Stage) -> Dry
@@ -210,19 +200,19 @@ fn run_records(
     reasons: &mut [u64; 256],
     queue: &mut [u64],
     sheet: &mut [u64; 2560],
-) -> DryAnswer
+) -> DryDone
     requires { (n ≤ 256) × (frames ≤ 2 ^ 62) × Fresh s queue.old }
-    ensures { ◌≡◌ {A = DryAnswer × Lent} (result, lent records.now reasons.new queue.new sheet.new) (records_ran s n frames (lent records.now reasons.old queue.old sheet.old)) }
+    ensures { ◌≡◌ {A = DryDone × Lent} (result, lent records.now reasons.new queue.new sheet.new) (records_ran s n frames (lent records.now reasons.old queue.old sheet.old)) }
 {
     let z = rehearse(s, queue, records, reasons, n);
     let report = z.report;
     let session = z.session;
     let run = run_on(session, queue, sheet, frames);
-    DryAnswer::Done(DryDone {
+    DryDone {
         commands: n,
         report,
         run,
-    })
+    }
 }
 
 /// Reads a tour with the session's own list of handles and runs it.
@@ -234,24 +224,18 @@ fn run_tour(
     reasons: &mut [u64; 256],
     queue: &mut [u64],
     sheet: &mut [u64; 2560],
-) -> DryAnswer
+) -> Result<DryDone, DryError>
     requires { Fresh s queue.old }
-    ensures { ◌≡◌ {A = DryAnswer × Lent} (result, lent records.new reasons.new queue.new sheet.new) (tour_ran s file.now blocks.now (lent records.old reasons.old queue.old sheet.old) (read_of (clips_of s.bank) file.now 1280)) }
+    ensures { ◌≡◌ {A = Result DryDone DryError × Lent} (result, lent records.new reasons.new queue.new sheet.new) (tour_ran s file.now blocks.now (lent records.old reasons.old queue.old sheet.old) (read_of (clips_of s.bank) file.now 1280)) }
 {
     let bank = s.bank;
     let words = clips::own_list(bank);
-    let a = tourfile::weigh_read(&words, file, 1280);
-    match a {
-        Err(e) => by_reader(e.fault, e.place),
-        Ok(n) => {
-            let sum = frames_in(blocks);
-            if sum.ok {
-                tourfile::fill(&words, file, records);
-                return run_records(s, n, sum.frames as usize, records, reasons, queue, sheet);
-            }
-            DryAnswer::Refused(DryRefusal::Clock, 0)
-        }
-    }
+    let n = tourfile::weigh_read(&words, file, 1280)?;
+    let Some(frames) = frames_in(blocks) else {
+        return Err(DryError::nowhere(DryRefusal::Clock));
+    };
+    tourfile::fill(&words, file, records);
+    Ok(run_records(s, n, frames as usize, records, reasons, queue, sheet))
 }
 
 /// Runs a recorded tour without its sound. `clips` has six words for each clip, the first the opening song, `blocks` two for
@@ -265,12 +249,11 @@ pub fn dry_run(
     reasons: &mut [u64; 256],
     queue: &mut [u64; 1280],
     sheet: &mut [u64; 2560],
-) -> DryAnswer
-    ensures { ◌≡◌ {A = DryAnswer × Lent} (result, lent records.new reasons.new queue.new sheet.new) (dry_run_of mode clips.now file.now blocks.now (lent records.old reasons.old queue.old sheet.old)) }
+) -> Result<DryDone, DryError>
+    ensures { ◌≡◌ {A = Result DryDone DryError × Lent} (result, lent records.new reasons.new queue.new sheet.new) (dry_run_of mode clips.now file.now blocks.now (lent records.old reasons.old queue.old sheet.old)) }
 {
-    let start = cliplist::start(mode, clips);
-    if start.ok {
-        return run_tour(start.session, file, blocks, records, reasons, queue, sheet);
-    }
-    DryAnswer::Refused(DryRefusal::Clips, 0)
+    let Some(session) = cliplist::start(mode, clips) else {
+        return Err(DryError::nowhere(DryRefusal::Clips));
+    };
+    run_tour(session, file, blocks, records, reasons, queue, sheet)
 }

@@ -1,7 +1,7 @@
 -- What a dry run gives a host. Definitions only.
-use Rattle.std.specs.Prelude.{ℕ, cond, eqb, None}
+use Rattle.std.specs.Prelude.{Result, Ok, Err, ℕ, cond, eqb, None}
 use Rattle.dryrun.specs.declared.DryDone.{DryDone}
-use Rattle.dryrun.specs.declared.DryAnswer.{DryAnswer}
+use Rattle.dryrun.specs.declared.DryError.{DryError}
 use Rattle.dryrun.specs.Call.{dry_number, SaysDry, came, refuses as refuses_dry}
 use Rattle.host.specs.Kept.{state_of, state_number, loop_of, loop_numbers, no_handle}
 use Rattle.host_dry.specs.declared.HostDryRun.{HostDryRun}
@@ -40,9 +40,9 @@ dry_run_done d =
       laps = d.run.dry.playhead.transport.laps;
     }
 
-abbrev pub dry_run_by : DryAnswer → HostDryRun
-dry_run_by (DryAnswer.Done d) = dry_run_done d
-dry_run_by (DryAnswer.Refused x at) = dry_run_refused (dry_number x) at
+abbrev pub dry_run_by : Result DryDone DryError → HostDryRun
+dry_run_by (Ok d) = dry_run_done d
+dry_run_by (Err e) = dry_run_refused (dry_number e.refusal) e.place
 
 -- what it says: a number of 0 is done
 abbrev pub says_dry_by : HostDryRun → SaysDry

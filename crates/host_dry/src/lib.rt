@@ -7,7 +7,7 @@ ghost use Rattle.host_dry.specs.Answers.{dry_run_refused, dry_run_done, dry_run_
 ghost use Rattle.host_dry.specs.Calls.{dry_run_host};
 
 use counts::{ClockFrame, Handle, SongFrame};
-use dryrun::{DryAnswer, DryDone};
+use dryrun::{DryDone, DryError};
 use host::HostLoop;
 
 /// What a dry run gives: how many commands the tour has, how many the replay took, how many were executed and how many are still
@@ -76,12 +76,12 @@ fn dry_run_done(d: DryDone) -> HostDryRun
     }
 }
 
-fn dry_run_answered(a: DryAnswer) -> HostDryRun
+fn dry_run_answered(a: Result<DryDone, DryError>) -> HostDryRun
     ensures { result ≡ dry_run_by a }
 {
     match a {
-        DryAnswer::Done(d) => dry_run_done(d),
-        DryAnswer::Refused(x, place) => dry_run_refused(x.number(), place),
+        Ok(d) => dry_run_done(d),
+        Err(e) => dry_run_refused(e.refusal.number(), e.place),
     }
 }
 

@@ -17,7 +17,7 @@ mod why;
 mod words;
 
 use blocks::{Blocks, PAIRS};
-use dryrun::{DryAnswer, DryDone, DryRefusal};
+use dryrun::{DryDone, DryRefusal};
 use files::Whole;
 use list::{CLIPS, List, WORDS};
 use sheet::{REASONS, RECORDS, ROWS};
@@ -94,11 +94,11 @@ fn run(
         &mut rows,
     );
     match a {
-        DryAnswer::Refused(x, place) => {
-            refused(rt, x, place, clips, lines, l.count);
+        Err(e) => {
+            refused(rt, e.refusal, e.place, clips, lines, l.count);
             Ok(())
         },
-        DryAnswer::Done(d) => done(rt, l, clips, s, &records, &reasons, &rows, d),
+        Ok(d) => done(rt, l, clips, s, &records, &reasons, &rows, d),
     }
 }
 

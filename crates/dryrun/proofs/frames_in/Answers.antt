@@ -2,22 +2,21 @@
 use mathlib.Core.Path.{◌≡◌, ap, ◌∙◌}
 use Prim.Native.Nat.{◌*◌}
 use native.Mathlib.Omega.{arith}
-use borrow.Author.Tests.{not-false}
-use Rattle.counts.proofs.Truth.{not_true}
+use Rattle.std.specs.Prelude.{Some}
 use Rattle.dryrun.specs.Blocks.{frames_in, sum_to}
 use Rattle.dryrun.proofs.Blocks.{sum_within, frames_none, pair_past, pair_within}
 use borrow.Author.Rules.{rules}
 use Rattle.dryrun.proofs.frames_in.Goals as goal
 
-pub returns-then-not-more : goal.returns-then-not-more
-returns-then-not-more c =
+pub returns-in_err-sum : goal.returns-in_err-sum
+returns-in_err-sum c =
     let l = c.loop-k in
-    pair_past _ l.k l.sum (omega arith) l.invariant.2 _ c.add_block-more.ensures (not_true _ c.if-not-more.true)
+    rw c.from_residual.ensures (pair_past _ l.k l.sum (omega arith) l.invariant.2 c.in_err-sum.ensures)
 
 pub loop-k-preserved : goal.loop-k-preserved
 loop-k-preserved c =
     let l = c.loop-k in
-    let w = pair_within _ l.k l.sum (omega arith) l.invariant.2 _ c.add_block-more.ensures (not-false _ c.if-not-more.false) in
+    let w = pair_within _ l.k l.sum (omega arith) l.invariant.2 _ c.in_ok-sum.ensures in
     (search rules, w.0, w.1)
 
 pub returns : goal.returns
