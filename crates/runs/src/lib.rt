@@ -158,19 +158,11 @@ fn voices_ahead(voices: Voices, pool: &[f32], bank: Bank, most: usize) -> usize
     let table = voices.table;
     let count = voices.count;
     let mut least = most;
-    let mut i: usize = 0;
-    while i < count {
+    for i in 0..count {
         let v = table[i];
-        let handle = v.handle;
-        let slot = handle.slot as usize;
-        let clip = bank.clips[slot];
+        let clip = bank.clips[v.handle.slot as usize];
         let left = voice_ahead(v, clip);
-        if left < least {
-            least = left;
-            i += 1;
-        } else {
-            i += 1;
-        }
+        least = least.min(left);
     }
     least
 }
@@ -334,23 +326,13 @@ fn over_sums(
 
 // ---- how far
 
-/// The lesser of two.
-fn least(a: u64, b: usize) -> usize
-    ensures { (result ≤ a) × (result ≤ b) }
-{
-    if a < b as u64 {
-        return a as usize;
-    }
-    b
-}
-
 /// At most so many frames in which a cursor does not pass its clip's end.
 fn cursor_ahead(frames: u64, cursor: SongFrame, most: usize) -> usize
     ensures { (result ≤ most) × Inside frames cursor.0 result }
 {
     let c = cursor.0;
     if c < frames {
-        return least(frames - c, most);
+        return most.min((frames - c) as usize);
     }
     most
 }
@@ -360,8 +342,8 @@ fn position_ahead(position: u64, end: u64, most: usize) -> usize
     ensures { (result ≤ most) × (0 < result → position + result < end) }
 {
     if position < end {
-        let left = end - position;
-        return least(left - 1, most);
+        let left = (end - position) as usize;
+        return most.min(left - 1);
     }
     0
 }

@@ -17,21 +17,17 @@ pub loop-i-init : goal.loop-i-init
 loop-i-init c =
     looking_start _ _ _ _
 
-pub bounds-bank-slot : goal.bounds-bank-slot
-bounds-bank-slot c =
+pub bounds-bank-v : goal.bounds-bank-v
+bounds-bank-v c =
     its_slot _ _ _ _ c.loop-i.invariant (omega (arith, c.requires.few)) (omega arith) c.requires c.loop-i-test.true past_voice past_clip
 
 pub voice_ahead-left-requires : goal.voice_ahead-left-requires
 voice_ahead-left-requires c =
     let a = its_asked _ _ _ _ c.loop-i.invariant (omega (arith, c.requires.few)) (omega arith) c.requires c.loop-i-test.true past_voice past_clip in (a.0, omega (arith, a.1, c.well_formed.1.0))
 
-pub loop-i-preserved-then-left-least : goal.loop-i-preserved-then-left-least
-loop-i-preserved-then-left-least c =
-    looking_turn _ _ _ _ c.loop-i.invariant (omega (arith, c.requires.few)) (omega arith) c.requires c.loop-i-test.true past_voice past_clip _ _ c.voice_ahead-left.ensures (omega arith) (omega (arith, c.if-left-least.true))
-
 pub loop-i-preserved : goal.loop-i-preserved
 loop-i-preserved c =
-    looking_turn _ _ _ _ c.loop-i.invariant (omega (arith, c.requires.few)) (omega arith) c.requires c.loop-i-test.true past_voice past_clip _ _ c.voice_ahead-left.ensures (omega (arith, c.if-left-least.false)) (omega arith)
+    looking_turn _ _ _ _ c.loop-i.invariant (omega (arith, c.requires.few)) (omega arith) c.requires c.loop-i-test.true past_voice past_clip _ _ c.voice_ahead-left.ensures (omega (arith, c.min-least.ensures)) (omega (arith, c.min-least.ensures))
 
 pub returns : goal.returns
 returns c =

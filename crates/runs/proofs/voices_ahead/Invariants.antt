@@ -1,10 +1,6 @@
 -- `runs::voices_ahead` meets its contract. Assumes nothing.
-use Prim.Native.Nat.{◌-◌}
 use Rattle.runs.proofs.Looking.{Looking}
 use Rattle.runs.proofs.voices_ahead.Given as goal
 
 abbrev pub invariant-loop-i : goal.invariant-loop-i
 invariant-loop-i l = Looking l.pool l.bank l.most (record { table = l.table; count = l.count }) l.least l.i
-
-abbrev pub decreases-loop-i : goal.decreases-loop-i
-decreases-loop-i l = l.count - l.i
