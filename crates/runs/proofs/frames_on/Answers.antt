@@ -1,8 +1,8 @@
 -- `runs::frames_on` meets its contract. Assumes nothing.
-use mathlib.Core.Path.{◌≡◌, ap, ◌∙◌}
-use Prim.Native.Nat.{ℕ, ◌*◌}
+use mathlib.Core.Path.{◌≡◌}
+use Prim.Native.Nat.{ℕ}
 use native.Mathlib.Omega.{arith}
-use lib.ListN.{length, get_or, length-set}
+use lib.ListN.{length, get_or}
 use mathlib.Core.List.{List}
 use lib.Ieee.{Float}
 use Rattle.bank.specs.declared.Bank.{Bank}
@@ -12,15 +12,11 @@ use Rattle.bank.specs.declared.Kind.{Kind}
 use Rattle.bank.specs.declared.Clip.{Clip}
 use Rattle.bank.specs.Slots.{clip_of}
 use Rattle.bank.specs.Recording.{recording_of, view_of}
-use Rattle.oneshot.specs.Mix.{sounding}
-use Rattle.sweeps.specs.Adds.{cleared}
-use Rattle.sweeps.proofs.Over.{length_over}
-use Rattle.runs.specs.Voices.{sums}
 use Rattle.runs.specs.Core.{CoreReady, core_of}
 use Rattle.runs.specs.Run.{slot_of}
 use Rattle.runs.proofs.Frames.{Tails, stage_at}
 use Rattle.runs.proofs.Runs.{run_stage, run_output, run_passes, silent_stage, silent_output, silent_passes, frame_stage, frame_output, frame_passes}
-use Rattle.runs.proofs.Clips.{clip_at_law, tail_slot, tail_lies, tail_sounds}
+use Rattle.runs.proofs.Clips.{clip_at_law, tail_lies, tail_sounds}
 use Rattle.runs.proofs.frames_on.Goals as goal
 
 abbrev past_clip : Clip
@@ -48,22 +44,6 @@ module _ (pool : List Float) (b : Bank) (most out : ℕ) (s : Stage) (r : Frames
         fits = rw (← song) r.fits;
       }
 
-pub bounds-bank-tslot : goal.bounds-bank-tslot
-bounds-bank-tslot c =
-    rw c.tail_slot-tslot.ensures (tail_slot c.args.pool.now c.args.bank (omega arith) past_clip c.args.stage.playhead.song c.requires.ready.slot c.args.stage.sound.fade.tail c.requires.ready.sound.tail)
-
-pub over_frames-gone-requires : goal.over_frames-gone-requires
-over_frames-gone-requires c =
-    (rw c.tail_slot-tslot.ensures (ready c.args.pool.now c.args.bank c.args.most (length c.args.out.now) c.args.stage c.requires (omega arith)), rw c.clear.ensures (omega (arith, length_over cleared 0 (c.args.most * 2) c.args.out.now, c.requires.room)))
-
-pub overflow_add-clock : goal.overflow_add-clock
-overflow_add-clock c =
-    omega (arith, c.requires.clock)
-
-pub shape_of-out-then-voices-eq0 : goal.shape_of-out-then-voices-eq0
-shape_of-out-then-voices-eq0 c =
-    ap length c.over_frames-gone.ensures.1 ∙ length_over _ 0 (c.args.most * 2) _ ∙ ap length c.clear.ensures ∙ length_over cleared 0 (c.args.most * 2) c.args.out.now
-
 pub returns-then-voices-eq0 : goal.returns-then-voices-eq0
 unfolding stage_at view_of
 returns-then-voices-eq0 c =
@@ -79,14 +59,6 @@ returns-then-voices-eq0 c =
       rw (o.0, k, ← song c.args.pool.now c.args.bank c.args.most (length c.args.out.now) c.args.stage c.requires (omega arith)) (silent_passes c.args.settings view t c.args.stage c.args.most (tails c.args.pool.now c.args.bank c.args.most (length c.args.out.now) c.args.stage c.requires (omega arith)) z),
     )
 
-pub bounds-out-0 : goal.bounds-out-0
-bounds-out-0 c =
-    omega (arith, c.requires.some, c.requires.room)
-
-pub bounds-out-1 : goal.bounds-out-1
-bounds-out-1 c =
-    simp length-set (omega (arith, c.requires.some, c.requires.room))
-
 pub returns-then-ahead-eq0 : goal.returns-then-ahead-eq0
 returns-then-ahead-eq0 c =
     let f = c.frame-made.ensures in
@@ -97,23 +69,6 @@ returns-then-ahead-eq0 c =
       rw f (frame_output c.args.settings view c.args.stage c.args.out.now (omega (arith, c.requires.some, c.requires.room))),
       rw f (frame_passes c.args.settings view c.args.stage),
     )
-
-pub mix_on-next_voices-requires : goal.mix_on-next_voices-requires
-mix_on-next_voices-requires c =
-    let a = c.voices_ahead-ahead.ensures in (c.requires.ready.sound.voices, a.1, omega (arith, a.0, c.requires.room))
-
-pub over_frames-gone-requires-2 : goal.over_frames-gone-requires-2
-over_frames-gone-requires-2 c =
-    let a = c.voices_ahead-ahead.ensures in
-    (rw c.tail_slot-tslot.ensures (ready c.args.pool.now c.args.bank c.args.most (length c.args.out.now) c.args.stage c.requires (omega arith)), rw c.mix_on-next_voices.ensures.1 (omega (arith, length_over (sums (view_of c.args.pool.now c.args.bank) (sounding c.args.stage.sound.voices)) 0 (c.voices_ahead-ahead.result * 2) c.args.out.now, a.0, c.requires.room)))
-
-pub overflow_add-clock-2 : goal.overflow_add-clock-2
-overflow_add-clock-2 c =
-    omega (arith, c.voices_ahead-ahead.ensures.0, c.requires.clock)
-
-pub shape_of-out : goal.shape_of-out
-shape_of-out c =
-    let v = c.voices_ahead-ahead.result in ap length c.over_frames-gone-2.ensures.1 ∙ length_over _ 0 (v * 2) _ ∙ ap length c.mix_on-next_voices.ensures.1 ∙ length_over (sums (view_of c.args.pool.now c.args.bank) (sounding c.args.stage.sound.voices)) 0 (v * 2) c.args.out.now
 
 pub returns : goal.returns
 unfolding stage_at view_of

@@ -1,7 +1,6 @@
 -- `runs::mix_on` meets its contract. Assumes nothing.
-use mathlib.Core.Path.{refl, ap, ◌∙◌}
+use mathlib.Core.Path.{refl, ap}
 use Prim.Native.Nat.{◌+◌, ◌*◌}
-use lib.ListN.{length}
 use lib.Ieee.{nan}
 use Rattle.bank.specs.declared.Kind.{Kind}
 use Rattle.bank.specs.declared.Clip.{Clip}
@@ -58,10 +57,6 @@ voice_on-w-requires c = ((able_its c.args.pool.now c.args.bank (omega arith) c.a
 pub loop-i-preserved : goal.loop-i-preserved
 loop-i-preserved c =
     rw (c.voice_on-w.ensures.0, c.voice_on-w.ensures.1) (able_turn c.args.pool.now c.args.bank (omega arith) c.args.frames past_clip c.args.voices c.requires.0 c.requires.1 _ c.loop-i.invariant past_voice _ _ refl (omega arith) c.loop-i-test.true c.loop-i.invariant)
-
-pub shape_of-out : goal.shape_of-out
-shape_of-out c =
-    c.loop-i.invariant.same ∙ ap length c.clear.ensures ∙ length_over cleared 0 _ _
 
 pub returns : goal.returns
 returns c =

@@ -1,12 +1,7 @@
 -- `runs::over_sums` meets its contract. Assumes nothing.
 use mathlib.Core.Path.{refl}
-use native.Mathlib.Omega.{arith}
 use Rattle.runs.proofs.Parts.{part_reads}
 use Rattle.runs.proofs.over_sums.Goals as goal
-
-pub part_of-part-requires : goal.part_of-part-requires
-part_of-part-requires c =
-    omega (arith, c.requires.clip, c.well_formed.1.0)
 
 pub add_both-gains-requires : goal.add_both-gains-requires
 add_both-gains-requires c =

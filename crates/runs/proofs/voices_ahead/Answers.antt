@@ -4,7 +4,7 @@ use lib.Ieee.{nan}
 use Rattle.bank.specs.declared.Kind.{Kind}
 use Rattle.bank.specs.declared.Clip.{Clip}
 use Rattle.oneshot.specs.declared.Voice.{Voice}
-use Rattle.runs.proofs.Looking.{looking_start, its_slot, its_asked, looking_turn}
+use Rattle.runs.proofs.Looking.{looking_turn}
 use Rattle.runs.proofs.voices_ahead.Goals as goal
 
 abbrev past_voice : Voice
@@ -13,22 +13,6 @@ past_voice = record { handle = record { slot = 0; serial = 0 }; head = record { 
 abbrev past_clip : Clip
 past_clip = record { serial = 0; kind = Kind.Song (record { 0 = 0 }); start = 0; frames = 0; rate = 0 }
 
-pub loop-i-init : goal.loop-i-init
-loop-i-init c =
-    looking_start _ _ _ _
-
-pub bounds-bank-v : goal.bounds-bank-v
-bounds-bank-v c =
-    its_slot _ _ _ _ c.loop-i.invariant (omega (arith, c.requires.few)) (omega arith) c.requires c.loop-i-test.true past_voice past_clip
-
-pub voice_ahead-left-requires : goal.voice_ahead-left-requires
-voice_ahead-left-requires c =
-    let a = its_asked _ _ _ _ c.loop-i.invariant (omega (arith, c.requires.few)) (omega arith) c.requires c.loop-i-test.true past_voice past_clip in (a.0, omega (arith, a.1, c.well_formed.1.0))
-
 pub loop-i-preserved : goal.loop-i-preserved
 loop-i-preserved c =
     looking_turn _ _ _ _ c.loop-i.invariant (omega (arith, c.requires.few)) (omega arith) c.requires c.loop-i-test.true past_voice past_clip _ _ c.voice_ahead-left.ensures (omega (arith, c.min-least.ensures)) (omega (arith, c.min-least.ensures))
-
-pub returns : goal.returns
-returns c =
-    (c.loop-i.invariant.held, λ k h. c.loop-i.invariant.each k (omega (arith, c.loop-i-test.false)))

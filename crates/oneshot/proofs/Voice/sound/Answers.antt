@@ -2,7 +2,6 @@
 use native.Mathlib.Omega.{arith}
 use mathlib.Core.Path.{◌≡◌}
 use lib.ListN.{length, get_or}
-use borrow.Author.Rules.{rules}
 use Rattle.bank.specs.declared.Kind.{Kind}
 use Prim.Native.Nat.{◌<◌}
 use Rattle.counts.specs.declared.Handle.{Handle}
@@ -19,13 +18,6 @@ past = record { serial = 0; kind = Kind.Song (record { 0 = 0 }); start = 0; fram
 
 clip : (b : Bank) (h : Handle) → length b.clips ≡ 32 → h.slot < 32 → get_or b.clips h.slot past ≡ clip_of b h
 clip b h l p = get_d_any b.clips h.slot past blank (omega arith)
-
-pub pair_at-frame-requires : goal.pair_at-frame-requires
-pair_at-frame-requires c = rw (clip c.args.bank c.args.self.handle (omega arith) c.requires.slot) c.requires.inside
-
-pub overflow_mul-samples : goal.overflow_mul-samples
-overflow_mul-samples c =
-    rw (clip c.args.bank c.args.self.handle (omega arith) c.requires.slot) (search rules)
 
 pub returns : goal.returns
 unfolding voice_of view_of

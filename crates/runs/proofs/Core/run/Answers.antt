@@ -1,13 +1,11 @@
 -- `Core::run` meets its contract: the song's part, song and tail over the sums, the transport. Assumes nothing.
-use mathlib.Core.Path.{◌≡◌, refl, sym, ap, ◌∙◌}
-use native.Mathlib.Omega.{arith}
+use mathlib.Core.Path.{◌≡◌, refl, sym, ap}
 use Rattle.counts.specs.declared.Handle.{Handle}
 use Rattle.ramp.specs.declared.Ramp.{Ramp}
 use Rattle.transport.specs.declared.Transport.{Transport}
 use Rattle.stage.specs.declared.Fade.{Fade}
 use Rattle.runs.specs.declared.Core.{Core}
 use Rattle.sweeps.specs.Over.{over}
-use Rattle.runs.proofs.Parts.{song_reads}
 use Rattle.runs.proofs.Calm.{core_none}
 use Rattle.runs.proofs.Core.run.Goals as goal
 
@@ -15,27 +13,7 @@ parts : (h : Handle) {t u : Transport} {g m : Ramp} {f e : Fade} → t ≡ u →
     → ◌≡◌ {A = Core} (record { playhead = record { transport = t; song = h }; master = g; fade = f }) (record { playhead = record { transport = u; song = h }; master = m; fade = e })
 parts h {t} {u} {g} {m} {f} {e} a b c = rw (a, b) (ap (λ x. record { playhead = record { transport = u; song = h }; master = m; fade = record { tail = x } }) c)
 
-pub over_sums-made-requires : goal.over_sums-made-requires
-over_sums-made-requires c =
-    let h = c.requires.1 (omega (arith, c.if-n-eq0.false)) in
-    record {
-      room = c.requires.2;
-      song = rw c.song_part-part.ensures (song_reads c.args.pool.now c.args.song c.args.self.playhead.transport c.args.n c.requires.0.song h.song.inside);
-      clip = c.requires.0.tail;
-      tail = h.tail;
-    }
-
-pub transport_by-next-requires : goal.transport_by-next-requires
-transport_by-next-requires c =
-    let h = c.requires.1 (omega (arith, c.if-n-eq0.false)) in
-    (h.song.inside, h.song.low)
-
 pub returns-then-n-eq0 : goal.returns-then-n-eq0
 unfolding over
 returns-then-n-eq0 c =
     rw c.if-n-eq0.true (sym (core_none c.args.song.frames c.args.clip.frames c.args.self), refl)
-
-pub returns : goal.returns
-returns c =
-    let o = c.over_sums-made.ensures in
-    (parts _ c.transport_by-next.ensures o.0 o.1, o.2 ∙ rw (c.is_house.ensures, c.song_part-part.ensures) refl)
