@@ -1,14 +1,14 @@
 //! Commands and their queue: what is executed, at which frame, in which order.
 #![tactic(auto)]
 
-ghost use Rattle.std.specs.Prelude.{◌≡◌, true, ◌&&◌, ◌||◌, ◌+◌, ◌-◌, ◌*◌, ◌≤◌, ◌<◌, ◌^◌, eqb, length};
+ghost use Rattle.std.specs.Prelude.{◌≡◌, Bool, true, ◌&&◌, ◌||◌, ◌+◌, ◌-◌, ◌*◌, ◌≤◌, ◌<◌, ◌^◌, eqb, length};
 ghost use Rattle.std.specs.Float.{binary32};
 ghost use Rattle.std.specs.Float.Ieee.{to_bits, of_bits, le};
 ghost use Rattle.counts.specs.Below.{within, count_below};
 ghost use Rattle.ramp.specs.Number.{finite, sixteen32};
 ghost use Rattle.timeline.specs.Command.{command_of, claim_of, takes_voice, gain_ok, is_senseless};
 ghost use Rattle.timeline.specs.Record.{handle_word, handle_of, row, row_of, readable, read_of, record_of, reading_of, holds_row, sooner};
-ghost use Rattle.timeline.specs.Store.{row_at, put_row, inserted, copied};
+ghost use Rattle.timeline.specs.Store.{row_at, put_row, inserted, kept, copied};
 ghost use Rattle.timeline.specs.Queue.{ordered_at, rising_at, entry_ok, stingers, holds, drop_transitions, transitions, is_queued, drop_captured, would_go};
 
 use counts::{Claim, ClockFrame, Handle, SongFrame};
@@ -34,16 +34,9 @@ impl Command {
         ensures { result ≡ claim_of self }
     {
         match self {
-            Command::Play => Claim::Nothing,
-            Command::Pause => Claim::Nothing,
-            Command::Stop => Claim::Nothing,
-            Command::Seek(_) => Claim::Nothing,
-            Command::Transition(_) => Claim::Nothing,
-            Command::Loop(_, _) => Claim::Nothing,
-            Command::ClearLoop => Claim::Nothing,
-            Command::Gain(_) => Claim::Nothing,
             Command::Swap(h) => Claim::Song(h),
             Command::Stinger(h, _) => Claim::Stinger(h),
+            _ => Claim::Nothing,
         }
     }
 
@@ -52,16 +45,9 @@ impl Command {
         ensures { result ≡ gain_ok self }
     {
         match self {
-            Command::Play => true,
-            Command::Pause => true,
-            Command::Stop => true,
-            Command::Seek(_) => true,
-            Command::Transition(_) => true,
-            Command::Loop(_, _) => true,
-            Command::ClearLoop => true,
             Command::Gain(g) => ramp::is_finite(g),
-            Command::Swap(_) => true,
             Command::Stinger(_, g) => stinger_gain_ok(g),
+            _ => true,
         }
     }
 
@@ -70,16 +56,8 @@ impl Command {
         ensures { result ≡ is_senseless self }
     {
         match self {
-            Command::Play => false,
-            Command::Pause => false,
-            Command::Stop => false,
-            Command::Seek(_) => false,
-            Command::Transition(_) => false,
             Command::Loop(start, end) => !(start.0 < end.0),
-            Command::ClearLoop => false,
-            Command::Gain(_) => false,
-            Command::Swap(_) => false,
-            Command::Stinger(_, _) => false,
+            _ => false,
         }
     }
 }
@@ -95,11 +73,7 @@ fn stinger_gain_ok(g: f32) -> bool
 pub fn takes_voice(c: Claim) -> bool
     ensures { result ≡ takes_voice c }
 {
-    match c {
-        Claim::Nothing => false,
-        Claim::Song(_) => false,
-        Claim::Stinger(_) => true,
-    }
+    matches!(c, Claim::Stinger(_))
 }
 
 /// What the ordinary submission takes: every command but a Transition.
@@ -379,24 +353,29 @@ pub fn first_at(store: &[u64], n: usize) -> ClockFrame
     ClockFrame(store[p])
 }
 
+/// Takes every one of n records that passes a test out, and keeps the order of the rest; gives how many are left.
+fn drop_rows<F: Fn(Row) -> bool>(store: &mut [u64], n: usize, test: F) -> usize
+    requires room { n * 5 ≤ length store.old }
+    requires calls { F.IsAlwaysCallable test }
+    ensures { (p : Row → Bool) → ((x : Row) (r : Bool) → F.post test x r → r ≡ p x) → (store.new ≡ (kept p store.old n).words) × (result ≡ (kept p store.old n).count) }
+{
+    let mut k = 0;
+    for j in 0..n {
+        let x = row_at(store, j);
+        if !test(x) {
+            put_row(store, k, x);
+            k += 1;
+        }
+    }
+    k
+}
+
 /// Takes every Transition out of the queue, and keeps the order of the rest; gives how many are left.
 pub fn drop_transitions(store: &mut [u64], n: usize) -> usize
     requires { n * 5 ≤ length store.old }
     ensures { (store.new ≡ (drop_transitions store.old n).words) × (result ≡ (drop_transitions store.old n).count) }
 {
-    let mut k = 0;
-    let mut j = 0;
-    while j < n {
-        let x = row_at(store, j);
-        if x.kind == 5 {
-            j += 1;
-        } else {
-            put_row(store, k, x);
-            k += 1;
-            j += 1;
-        }
-    }
-    k
+    drop_rows(store, n, |x| x.kind == 5)
 }
 
 /// Whether a Transition of that number is queued.
@@ -404,15 +383,10 @@ fn is_queued(store: &[u64], n: usize, number: u64) -> bool
     requires { n * 5 ≤ length store.now }
     ensures { result ≡ is_queued store.now n number }
 {
-    let mut j = 0;
-    while j < n {
+    (0..n).any(|j| {
         let x = row_at(store, j);
-        if (x.kind == 5) & (x.number == number) {
-            return true;
-        }
-        j += 1;
-    }
-    false
+        (x.kind == 5) & (x.number == number)
+    })
 }
 
 /// Takes the records of the queued Transitions out of a capture of m, found by their numbers; gives how many are left.
@@ -420,19 +394,7 @@ pub fn drop_captured(capture: &mut [u64], m: usize, store: &[u64], n: usize) -> 
     requires { (m * 5 ≤ length capture.old) × (n * 5 ≤ length store.now) }
     ensures { (capture.new ≡ (drop_captured capture.old m store.now n).words) × (result ≡ (drop_captured capture.old m store.now n).count) }
 {
-    let mut k = 0;
-    let mut j = 0;
-    while j < m {
-        let x = row_at(capture, j);
-        if is_queued(store, n, x.number) {
-            j += 1;
-        } else {
-            put_row(capture, k, x);
-            k += 1;
-            j += 1;
-        }
-    }
-    k
+    drop_rows(capture, m, |x| is_queued(store, n, x.number))
 }
 
 /// How many of n records are of a kind.
@@ -440,18 +402,7 @@ fn count_kind(store: &[u64], n: usize, kind: u64) -> usize
     requires { n * 5 ≤ length store.now }
     ensures { result ≡ count_below n (λ j. eqb (row_at store.now j).kind kind) }
 {
-    let mut k = 0;
-    let mut j = 0;
-    while j < n {
-        let x = row_at(store, j);
-        if x.kind == kind {
-            k += 1;
-            j += 1;
-        } else {
-            j += 1;
-        }
-    }
-    k
+    (0..n).filter(|&j| row_at(store, j).kind == kind).count()
 }
 
 /// How many stingers are queued.
@@ -475,18 +426,9 @@ pub fn count_would_go(capture: &[u64], m: usize, store: &[u64], n: usize) -> usi
     requires { (m * 5 ≤ length capture.now) × (n * 5 ≤ length store.now) }
     ensures { result ≡ would_go capture.now m store.now n }
 {
-    let mut k = 0;
-    let mut j = 0;
-    while j < m {
-        let x = row_at(capture, j);
-        if is_queued(store, n, x.number) {
-            k += 1;
-            j += 1;
-        } else {
-            j += 1;
-        }
-    }
-    k
+    (0..m)
+        .filter(|&j| is_queued(store, n, row_at(capture, j).number))
+        .count()
 }
 
 /// Copies the first n records of a capture to a list's front; the rest of the list stays.
@@ -495,11 +437,7 @@ pub fn copy_records(list: &mut [u64], capture: &[u64], n: usize)
     ensures { list.new ≡ copied capture.now n list.old }
 {
     let e = n * 5;
-    let mut p = 0;
-    while p < e {
-        list[p] = capture[p];
-        p += 1;
-    }
+    list[..e].copy_from_slice(&capture[..e]);
 }
 
 /// A Swap or a Stinger that holds the handle.
@@ -515,14 +453,7 @@ pub fn holds(store: &[u64], n: usize, h: Handle) -> bool
     requires { n * 5 ≤ length store.now }
     ensures { result ≡ holds h store.now n }
 {
-    let mut j = 0;
-    while j < n {
-        if holds_row(h, row_at(store, j)) {
-            return true;
-        }
-        j += 1;
-    }
-    false
+    (0..n).any(|j| holds_row(h, row_at(store, j)))
 }
 
 /// Strictly before, by (frame, submission number).

@@ -1,29 +1,16 @@
--- `count_kind` meets its contract: the records passed are counted.
-use mathlib.Core.Path.{◌≡◌, sym, ap, ◌∙◌}
-use Prim.Native.Nat.{ℕ, ◌+◌}
-use borrow.Author.Tests.{eq-eqb, ne_eqb}
-use Rattle.counts.specs.Below.{count_below}
-use Rattle.timeline.proofs.Steps.{count_in, count_out}
-use borrow.Author.Rules.{rules}
-use native.Mathlib.Omega.{arith}
+-- `count_kind` meets its contract: the test of every record, counted.
+use Rattle.std.proofs.Common.{ℕ, eqb, ◌∙◌, arith, rules, tests}
+use Rattle.std.specs.List.{range_with_len}
+use Rattle.std.proofs.lemmas.List.Sums.{length-filter}
+use Rattle.std.proofs.lemmas.Iterator.{YieldsList-from_range}
+use Rattle.std.proofs.lemmas.Iterator.Consumers.{YieldsList-from_filter, count_from_yields_List}
+use Rattle.counts.proofs.Chains.{count_of_range}
+use Rattle.timeline.specs.Store.{row_at}
 use Rattle.timeline.proofs.count_kind.Goals as goal
-
-pub loop-j-init : goal.loop-j-init
-unfolding count_below
-loop-j-init c = search rules
-
-pub loop-j-preserved-then-x-kind : goal.loop-j-preserved-then-x-kind
-loop-j-preserved-then-x-kind c =
-    let l = c.loop-j in
-    (search rules, search rules, ap (λ (z : ℕ). z + 1) l.invariant.2 ∙ sym (count_in _ l.j (eq-eqb _ _ (rw c.row_at-x.ensures at c.if-x-kind.true))))
-
-pub loop-j-preserved : goal.loop-j-preserved
-loop-j-preserved c =
-    let l = c.loop-j in
-    (search rules, search rules, l.invariant.2 ∙ sym (count_out _ l.j (ne_eqb _ _ (rw c.row_at-x.ensures at c.if-x-kind.false))))
 
 pub returns : goal.returns
 returns c =
-    let l = c.loop-j in
-    let e : l.j ≡ c.args.n = omega arith in
-    rw e at l.invariant.2
+    let a = c.args in
+    let p = λ (j : ℕ). eqb (row_at a.store.now j).kind a.kind in
+    count_from_yields_List c.filter.result _ c.count.ensures.ran (YieldsList-from_filter _ p (YieldsList-from_range 0 a.n a.n (cc) (omega arith)) c.filter.ensures.closure (λ x b q k. search (rules, tests)))
+    ∙ length-filter p (range_with_len 0 a.n) ∙ count_of_range p a.n

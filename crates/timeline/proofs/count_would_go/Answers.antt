@@ -1,28 +1,17 @@
--- `count_would_go` meets its contract: the records passed are counted.
-use mathlib.Core.Path.{◌≡◌, sym, ap, ◌∙◌}
-use Prim.Native.Nat.{ℕ, ◌+◌}
-use Rattle.counts.specs.Below.{count_below}
-use Rattle.timeline.proofs.Steps.{count_in, count_out}
-use borrow.Author.Rules.{rules}
-use native.Mathlib.Omega.{arith}
+-- `count_would_go` meets its contract: the test of every record, counted.
+use Rattle.std.proofs.Common.{ℕ, ◌∙◌, arith, rules, tests}
+use Rattle.std.specs.List.{range_with_len}
+use Rattle.std.proofs.lemmas.List.Sums.{length-filter}
+use Rattle.std.proofs.lemmas.Iterator.{YieldsList-from_range}
+use Rattle.std.proofs.lemmas.Iterator.Consumers.{YieldsList-from_filter, count_from_yields_List}
+use Rattle.counts.proofs.Chains.{count_of_range}
+use Rattle.timeline.specs.Store.{row_at}
+use Rattle.timeline.specs.Queue.{is_queued}
 use Rattle.timeline.proofs.count_would_go.Goals as goal
-
-pub loop-j-init : goal.loop-j-init
-unfolding count_below
-loop-j-init c = search rules
-
-pub loop-j-preserved-then-is_queued : goal.loop-j-preserved-then-is_queued
-loop-j-preserved-then-is_queued c =
-    let l = c.loop-j in
-    (search rules, search rules, ap (λ (z : ℕ). z + 1) l.invariant.2 ∙ sym (count_in _ l.j (rw c.row_at-x.ensures at (sym c.is_queued.ensures ∙ c.if-is_queued.true))))
-
-pub loop-j-preserved : goal.loop-j-preserved
-loop-j-preserved c =
-    let l = c.loop-j in
-    (search rules, search rules, l.invariant.2 ∙ sym (count_out _ l.j (rw c.row_at-x.ensures at (sym c.is_queued.ensures ∙ c.if-is_queued.false))))
 
 pub returns : goal.returns
 returns c =
-    let l = c.loop-j in
-    let e : l.j ≡ c.args.m = omega arith in
-    rw e at l.invariant.2
+    let a = c.args in
+    let p = λ (j : ℕ). is_queued a.store.now a.n (row_at a.capture.now j).number in
+    count_from_yields_List c.filter.result _ c.count.ensures.ran (YieldsList-from_filter _ p (YieldsList-from_range 0 a.m a.m (cc) (omega arith)) c.filter.ensures.closure (λ x b q k. search (rules, tests)))
+    ∙ length-filter p (range_with_len 0 a.m) ∙ count_of_range p a.m

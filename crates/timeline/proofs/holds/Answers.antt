@@ -1,19 +1,14 @@
--- `holds` meets its contract: the test failed at every record passed.
-use mathlib.Core.Path.{sym, ◌∙◌}
-use borrow.Author.Count.{below_none, below_more}
-use Rattle.counts.proofs.Below.{any_true, any_false}
-use borrow.Author.Rules.{rules}
-use native.Mathlib.Omega.{arith}
+-- `holds` meets its contract: the test of some record.
+use Rattle.std.proofs.Common.{ℕ, ◌∙◌, arith, rules, tests}
+use Rattle.std.proofs.lemmas.Iterator.{YieldsList-from_range}
+use Rattle.std.proofs.lemmas.Iterator.Search.{any_from_yields_List}
+use Rattle.counts.proofs.Chains.{any_of_range}
+use Rattle.timeline.specs.Record.{holds_row}
+use Rattle.timeline.specs.Store.{row_at}
 use Rattle.timeline.proofs.holds.Goals as goal
 
-pub loop-j-init : goal.loop-j-init
-loop-j-init c = (search rules, below_none _)
-
-pub returns-then-holds_row : goal.returns-then-holds_row
-returns-then-holds_row c = sym (any_true _ _ c.loop-j.j (omega arith) (rw c.row_at.ensures at (sym c.holds_row.ensures ∙ c.if-holds_row.true)))
-
-pub loop-j-preserved : goal.loop-j-preserved
-loop-j-preserved c = (search rules, below_more _ _ c.loop-j.invariant.1 (rw c.row_at.ensures at (sym c.holds_row.ensures ∙ c.if-holds_row.false)))
-
 pub returns : goal.returns
-returns c = sym (any_false _ _ (λ k h. c.loop-j.invariant.1 k (omega arith)))
+returns c =
+    let a = c.args in
+    let p = λ (j : ℕ). holds_row a.h (row_at a.store.now j) in
+    any_from_yields_List p _ _ _ c.any.ensures.ran (YieldsList-from_range 0 a.n a.n (cc) (omega arith)) (λ x b q k. search (rules, tests)) ∙ any_of_range p a.n
