@@ -29,17 +29,13 @@ fn voice_on(v: Voice, pool: &[f32], clip: Clip, out: &mut [f32], frames: usize) 
     requires { LastsIn (length pool.now) frames v clip × (frames * 2 ≤ length out.old) }
     ensures { (result ≡ voice_by frames v) × (out.new ≡ voice_on pool.now clip frames v out.old) }
 {
-    let handle = v.handle;
     let head = v.head.0;
-    let start = (clip.start * 2) as usize;
-    let at = start + head;
-    let ramp = v.gain;
-    let gain = sweeps::add_part(pool, Some(at), out, frames, ramp);
-    let next = head + frames * 2;
+    let at = (clip.start * 2) as usize + head;
+    let gain = sweeps::add_part(pool, Some(at), out, frames, v.gain);
     Voice {
-        handle: handle,
-        head: SamplePlace(next),
-        gain: gain,
+        head: SamplePlace(head + frames * 2),
+        gain,
+        ..v
     }
 }
 
@@ -48,13 +44,10 @@ fn stream_of(v: Voice, clip: Clip) -> Stream
     requires { clip.start * 2 + v.head.0 < 9223372036854775808 }
     ensures { result ≡ stream_of v clip }
 {
-    let head = v.head.0;
     let start = (clip.start * 2) as usize;
-    let at = start + head;
-    let gain = v.gain;
     Stream {
-        at: at,
-        gain: gain.value,
+        at: start + v.head.0,
+        gain: v.gain.value,
     }
 }
 
@@ -63,80 +56,58 @@ fn still_by(v: Voice, frames: usize) -> Voice
     requires { Still v × (v.head.0 + frames * 2 < 9223372036854775808) }
     ensures { result ≡ voice_by frames v }
 {
-    let handle = v.handle;
-    let gain = v.gain;
     let next = v.head.0 + frames * 2;
     Voice {
-        handle: handle,
         head: SamplePlace(next),
-        gain: gain,
+        ..v
     }
 }
 
-/// The gains of four voices stand still.
-fn all_still(a: Voice, b: Voice, c: Voice, d: Voice) -> bool
-    ensures { result ≡ true → Still a × Still b × Still c × Still d }
-{
-    let ga = a.gain;
-    let gb = b.gain;
-    let gc = c.gain;
-    let gd = d.gain;
-    ga.at_target() & gb.at_target() & gc.at_target() & gd.at_target()
+/// What four voices have, in firing order.
+#[derive(Clone, Copy)]
+struct Four<T> {
+    a: T,
+    b: T,
+    c: T,
+    d: T,
 }
 
-/// Four voices, in firing order.
-#[derive(Clone, Copy)]
-struct Four {
-    a: Voice,
-    b: Voice,
-    c: Voice,
-    d: Voice,
+/// The gains of four voices stand still.
+fn all_still(v: Four<Voice>) -> bool
+    ensures { result ≡ true → Still v.a × Still v.b × Still v.c × Still v.d }
+{
+    v.a.gain.at_target() & v.b.gain.at_target() & v.c.gain.at_target() & v.d.gain.at_target()
 }
 
 /// So many frames of four voices whose clips have more: each adds its share, in turn. Where their gains stand still, they are added together.
 fn four_on(
-    a: Voice,
-    b: Voice,
-    c: Voice,
-    d: Voice,
+    v: Four<Voice>,
     pool: &[f32],
-    ca: Clip,
-    cb: Clip,
-    cc: Clip,
-    cd: Clip,
+    clips: Four<Clip>,
     out: &mut [f32],
     frames: usize,
-) -> Four
-    requires { LastsIn (length pool.now) frames a ca × LastsIn (length pool.now) frames b cb × LastsIn (length pool.now) frames c cc × LastsIn (length pool.now) frames d cd × (frames * 2 ≤ length out.old) }
-    ensures { (result ≡ record { a = voice_by frames a; b = voice_by frames b; c = voice_by frames c; d = voice_by frames d }) × (out.new ≡ voice_on pool.now cd frames d (voice_on pool.now cc frames c (voice_on pool.now cb frames b (voice_on pool.now ca frames a out.old)))) }
+) -> Four<Voice>
+    requires { LastsIn (length pool.now) frames v.a clips.a × LastsIn (length pool.now) frames v.b clips.b × LastsIn (length pool.now) frames v.c clips.c × LastsIn (length pool.now) frames v.d clips.d × (frames * 2 ≤ length out.old) }
+    ensures { (result ≡ record { a = voice_by frames v.a; b = voice_by frames v.b; c = voice_by frames v.c; d = voice_by frames v.d }) × (out.new ≡ voice_on pool.now clips.d frames v.d (voice_on pool.now clips.c frames v.c (voice_on pool.now clips.b frames v.b (voice_on pool.now clips.a frames v.a out.old)))) }
 {
-    if all_still(a, b, c, d) {
-        let places = frames * 2;
-        let sa = stream_of(a, ca);
-        let sb = stream_of(b, cb);
-        let sc = stream_of(c, cc);
-        let sd = stream_of(d, cd);
-        sweeps::add_four(pool, sa, sb, sc, sd, out, places);
-        let wa = still_by(a, frames);
-        let wb = still_by(b, frames);
-        let wc = still_by(c, frames);
-        let wd = still_by(d, frames);
+    if all_still(v) {
+        let sa = stream_of(v.a, clips.a);
+        let sb = stream_of(v.b, clips.b);
+        let sc = stream_of(v.c, clips.c);
+        let sd = stream_of(v.d, clips.d);
+        sweeps::add_four(pool, sa, sb, sc, sd, out, frames * 2);
         return Four {
-            a: wa,
-            b: wb,
-            c: wc,
-            d: wd,
+            a: still_by(v.a, frames),
+            b: still_by(v.b, frames),
+            c: still_by(v.c, frames),
+            d: still_by(v.d, frames),
         };
     }
-    let wa = voice_on(a, pool, ca, &mut out[..], frames);
-    let wb = voice_on(b, pool, cb, &mut out[..], frames);
-    let wc = voice_on(c, pool, cc, &mut out[..], frames);
-    let wd = voice_on(d, pool, cd, &mut out[..], frames);
     Four {
-        a: wa,
-        b: wb,
-        c: wc,
-        d: wd,
+        a: voice_on(v.a, pool, clips.a, &mut out[..], frames),
+        b: voice_on(v.b, pool, clips.b, &mut out[..], frames),
+        c: voice_on(v.c, pool, clips.c, &mut out[..], frames),
+        d: voice_on(v.d, pool, clips.d, &mut out[..], frames),
     }
 }
 
@@ -155,11 +126,9 @@ fn voices_ahead(voices: Voices, pool: &[f32], bank: Bank, most: usize) -> usize
     requires { Ready (length pool.now) bank voices }
     ensures { (result ≤ most) × Each (Lasts (view_of pool.now bank) result) voices }
 {
-    let table = voices.table;
-    let count = voices.count;
     let mut least = most;
-    for i in 0..count {
-        let v = table[i];
+    for i in 0..voices.count {
+        let v = voices.table[i];
         let clip = bank.clips[v.handle.slot as usize];
         let left = voice_ahead(v, clip);
         least = least.min(left);
@@ -174,46 +143,34 @@ fn mix_on(voices: Voices, pool: &[f32], bank: Bank, out: &mut [f32], frames: usi
 {
     let mut table = voices.table;
     let count = voices.count;
-    let places = frames * 2;
-    sweeps::clear(&mut out[..], places);
+    sweeps::clear(&mut out[..], frames * 2);
     let mut i: usize = 0;
     while i < count {
         if 4 <= count - i {
-            let j = i + 1;
-            let k = i + 2;
-            let l = i + 3;
             let a = table[i];
-            let b = table[j];
-            let c = table[k];
-            let d = table[l];
-            let ca = bank.clips[a.handle.slot as usize];
-            let cb = bank.clips[b.handle.slot as usize];
-            let cc = bank.clips[c.handle.slot as usize];
-            let cd = bank.clips[d.handle.slot as usize];
-            let w = four_on(a, b, c, d, pool, ca, cb, cc, cd, &mut out[..], frames);
-            let wa = w.a;
-            let wb = w.b;
-            let wc = w.c;
-            let wd = w.d;
-            table[i] = wa;
-            table[j] = wb;
-            table[k] = wc;
-            table[l] = wd;
+            let b = table[i + 1];
+            let c = table[i + 2];
+            let d = table[i + 3];
+            let clips = Four {
+                a: bank.clips[a.handle.slot as usize],
+                b: bank.clips[b.handle.slot as usize],
+                c: bank.clips[c.handle.slot as usize],
+                d: bank.clips[d.handle.slot as usize],
+            };
+            let w = four_on(Four { a, b, c, d }, pool, clips, &mut out[..], frames);
+            table[i] = w.a;
+            table[i + 1] = w.b;
+            table[i + 2] = w.c;
+            table[i + 3] = w.d;
             i += 4;
         } else {
             let v = table[i];
-            let handle = v.handle;
-            let slot = handle.slot as usize;
-            let clip = bank.clips[slot];
-            let w = voice_on(v, pool, clip, &mut out[..], frames);
-            table[i] = w;
+            let clip = bank.clips[v.handle.slot as usize];
+            table[i] = voice_on(v, pool, clip, &mut out[..], frames);
             i += 1;
         }
     }
-    Voices {
-        table: table,
-        count: count,
-    }
+    Voices { table, ..voices }
 }
 
 // ---- a run of song and tail
@@ -225,8 +182,7 @@ fn part_of(clip: Clip, cursor: SongFrame) -> Option<usize>
 {
     let c = cursor.0;
     if c < clip.frames {
-        let at = ((clip.start + c) * 2) as usize;
-        return Some(at);
+        return Some(((clip.start + c) * 2) as usize);
     }
     None
 }
@@ -236,10 +192,8 @@ fn song_part(clip: Clip, t: Transport) -> Option<usize>
     requires { (clip.start + clip.frames) * 2 < 9223372036854775808 }
     ensures { result ≡ song_part clip t }
 {
-    let state = t.state;
-    if state.is_playing() {
-        let cursor = t.cursor;
-        return part_of(clip, cursor);
+    if t.state.is_playing() {
+        return part_of(clip, t.cursor);
     }
     None
 }
@@ -251,8 +205,7 @@ fn cursor_by(frames: u64, cursor: SongFrame, n: usize) -> SongFrame
 {
     let c = cursor.0;
     if c < frames {
-        let on = c + n as u64;
-        return SongFrame(on);
+        return SongFrame(c + n as u64);
     }
     cursor
 }
@@ -262,18 +215,11 @@ fn transport_by(t: Transport, frames: u64, n: usize) -> Transport
     requires { (is_playing t.state ≡ true → Inside frames t.cursor.0 n) × (is_playing t.state ≡ true → t.position.0 + n < 18446744073709551616) }
     ensures { result ≡ transport_by frames n t }
 {
-    let state = t.state;
-    if state.is_playing() {
-        let position = t.position.0 + n as u64;
-        let was = t.cursor;
-        let cursor = cursor_by(frames, was, n);
-        let looped = t.looped;
+    if t.state.is_playing() {
         return Transport {
-            state: state,
-            position: SongFrame(position),
-            cursor: cursor,
-            looped: looped,
-            laps: t.laps,
+            position: SongFrame(t.position.0 + n as u64),
+            cursor: cursor_by(frames, t.cursor, n),
+            ..t
         };
     }
     t
@@ -303,10 +249,7 @@ fn over_sums(
     match fade.tail {
         None => {
             let g = sweeps::add_part(pool, song, out, n, master);
-            Over {
-                master: g,
-                fade: fade,
-            }
+            Over { master: g, fade }
         }
         Some(t) => {
             let part = part_of(clip, t.cursor);
@@ -359,12 +302,9 @@ fn end_of(t: Transport, extent: SongFrame) -> u64
 fn song_ahead(t: Transport, frames: u64, extent: SongFrame, most: usize) -> usize
     ensures { (result ≤ most) × (0 < result → Steady frames extent.0 result t) }
 {
-    let state = t.state;
-    if state.is_playing() {
-        let cursor = t.cursor;
-        let reads = cursor_ahead(frames, cursor, most);
-        let end = end_of(t, extent);
-        return position_ahead(t.position.0, end, reads);
+    if t.state.is_playing() {
+        let reads = cursor_ahead(frames, t.cursor, most);
+        return position_ahead(t.position.0, end_of(t, extent), reads);
     }
     most
 }
@@ -413,14 +353,9 @@ impl Core {
     fn ahead(self, song: Clip, clip: Clip, most: usize) -> usize
         ensures { (result ≤ most) × (0 < result → Calm song clip result self) }
     {
-        let playhead = self.playhead;
-        let t = playhead.transport;
-        let kind = song.kind;
-        let extent = bank::extent_of(kind);
-        let first = song_ahead(t, song.frames, extent, most);
-        let fade = self.fade;
-        let tail = fade.tail;
-        tail_ahead(tail, clip.frames, first)
+        let extent = bank::extent_of(song.kind);
+        let first = song_ahead(self.playhead.transport, song.frames, extent, most);
+        tail_ahead(self.fade.tail, clip.frames, first)
     }
 
     /// So many frames at once, in which nothing is decided anew, over the sums that stand there. No frames: nothing.
@@ -439,23 +374,17 @@ impl Core {
         if n == 0 {
             return self;
         }
-        let playhead = self.playhead;
-        let handle = playhead.song;
-        let t = playhead.transport;
+        let t = self.playhead.transport;
         let part = song_part(song, t);
-        let master = self.master;
-        let fade = self.fade;
-        let made = over_sums(settings.is_house(), pool, part, clip, master, fade, out, n);
-        let next_master = made.master;
-        let next_fade = made.fade;
-        let next = transport_by(t, song.frames, n);
+        let house = settings.is_house();
+        let made = over_sums(house, pool, part, clip, self.master, self.fade, out, n);
         Core {
             playhead: Playhead {
-                transport: next,
-                song: handle,
+                transport: transport_by(t, song.frames, n),
+                ..self.playhead
             },
-            master: next_master,
-            fade: next_fade,
+            master: made.master,
+            fade: made.fade,
         }
     }
 
@@ -465,26 +394,19 @@ impl Core {
         requires { CoreReady (length pool.now) song clip self }
         ensures { result ≡ core_made settings (recording_of pool.now song) (recording_of pool.now clip) self sum }
     {
-        let playhead = self.playhead;
-        let kind = song.kind;
-        let moved = playhead.step(settings, song.frames, bank::extent_of(kind));
+        let extent = bank::extent_of(song.kind);
+        let moved = self.playhead.step(settings, song.frames, extent);
         let pair = stage::played(pool, song, moved);
-        let master = self.master;
-        let ticked = master.tick();
+        let ticked = self.master.tick();
         let g = ticked.value;
-        let fade = self.fade;
-        let faded = fade.step_of(settings, pool, clip, g, pair.times(g));
-        let out = faded.out;
-        let next_playhead = moved.playhead;
-        let next_master = ticked.ramp;
-        let next_fade = faded.fade;
+        let faded = self.fade.step_of(settings, pool, clip, g, pair.times(g));
         Made {
             core: Core {
-                playhead: next_playhead,
-                master: next_master,
-                fade: next_fade,
+                playhead: moved.playhead,
+                master: ticked.ramp,
+                fade: faded.fade,
             },
-            out: out.plus(sum),
+            out: faded.out.plus(sum),
             passes: moved.passes,
         }
     }
@@ -507,7 +429,7 @@ impl Core {
         let core = self.run(settings, pool, song, clip, &mut out[..], ahead);
         if ahead == most {
             return Gone {
-                core: core,
+                core,
                 frames: most,
                 passes: 0,
             };
@@ -519,14 +441,11 @@ impl Core {
             right: out[right],
         };
         let made = core.frame(settings, pool, song, clip, sum);
-        let pair = made.out;
-        out[left] = pair.left;
-        out[right] = pair.right;
-        let next = made.core;
-        let frames = ahead + 1;
+        out[left] = made.out.left;
+        out[right] = made.out.right;
         Gone {
-            core: next,
-            frames: frames,
+            core: made.core,
+            frames: ahead + 1,
             passes: made.passes,
         }
     }
@@ -551,15 +470,14 @@ fn over_frames(
     while done < frames {
         let at = done * 2;
         let gone = core.go_on(settings, pool, song, clip, &mut out[at..], frames - done);
-        let more = gone.frames;
         core = gone.core;
-        passes = passes + gone.passes;
-        done = done + more;
+        passes += gone.passes;
+        done += gone.frames;
     }
     Gone {
-        core: core,
-        frames: frames,
-        passes: passes,
+        core,
+        frames,
+        passes,
     }
 }
 
@@ -592,42 +510,30 @@ pub fn frames_on(
     requires { FramesReady pool.now bank most (length out.old) stage }
     ensures { (0 < result.frames) × (result.frames ≤ most) × (result.stage ≡ (stretch_of settings (view_of pool.now bank) result.frames stage).at.core) × (out.new ≡ output_of (stretch_of settings (view_of pool.now bank) result.frames stage).made ++ drop (result.frames * 2) out.old) × (result.passes ≡ passes_of (stretch_of settings (view_of pool.now bank) result.frames stage).made) }
 {
-    let playhead = stage.playhead;
-    let handle = playhead.song;
-    let slot = handle.slot as usize;
-    let song = bank.clips[slot];
+    let handle = stage.playhead.song;
     let sound = stage.sound;
-    let fade = sound.fade;
-    let tail = fade.tail;
-    let tslot = tail_slot(tail, handle) as usize;
-    let clip = bank.clips[tslot];
-    let master = sound.master;
-    let core = Core {
-        playhead: playhead,
-        master: master,
-        fade: fade,
-    };
-    let counters = stage.counters;
     let voices = sound.voices;
+    let song = bank.clips[handle.slot as usize];
+    let clip = bank.clips[tail_slot(sound.fade.tail, handle) as usize];
+    let core = Core {
+        playhead: stage.playhead,
+        master: sound.master,
+        fade: sound.fade,
+    };
     if voices.count == 0 {
-        let places = most * 2;
-        sweeps::clear(&mut out[..], places);
+        sweeps::clear(&mut out[..], most * 2);
         let gone = over_frames(core, settings, pool, song, clip, out, most);
         let next = gone.core;
-        let next_playhead = next.playhead;
-        let next_master = next.master;
-        let next_fade = next.fade;
-        let clock = stage.clock.0 + most as u64;
         return Further {
             stage: Stage {
-                clock: ClockFrame(clock),
-                playhead: next_playhead,
+                clock: ClockFrame(stage.clock.0 + most as u64),
+                playhead: next.playhead,
                 sound: Sound {
-                    master: next_master,
-                    fade: next_fade,
-                    voices: voices,
+                    master: next.master,
+                    fade: next.fade,
+                    voices,
                 },
-                counters: counters,
+                ..stage
             },
             frames: most,
             passes: gone.passes,
@@ -636,33 +542,27 @@ pub fn frames_on(
     let ahead = voices_ahead(voices, pool, bank, most);
     if ahead == 0 {
         let made = stage.frame(settings, pool, bank);
-        let pair = made.out;
-        out[0] = pair.left;
-        out[1] = pair.right;
-        let next = made.stage;
+        out[0] = made.out.left;
+        out[1] = made.out.right;
         return Further {
-            stage: next,
+            stage: made.stage,
             frames: 1,
             passes: made.passes,
         };
     }
-    let next_voices = mix_on(voices, pool, bank, &mut out[..], ahead);
+    let voices = mix_on(voices, pool, bank, &mut out[..], ahead);
     let gone = over_frames(core, settings, pool, song, clip, out, ahead);
     let next = gone.core;
-    let next_playhead = next.playhead;
-    let next_master = next.master;
-    let next_fade = next.fade;
-    let clock = stage.clock.0 + ahead as u64;
     Further {
         stage: Stage {
-            clock: ClockFrame(clock),
-            playhead: next_playhead,
+            clock: ClockFrame(stage.clock.0 + ahead as u64),
+            playhead: next.playhead,
             sound: Sound {
-                master: next_master,
-                fade: next_fade,
-                voices: next_voices,
+                master: next.master,
+                fade: next.fade,
+                voices,
             },
-            counters: counters,
+            ..stage
         },
         frames: ahead,
         passes: gone.passes,

@@ -7,7 +7,7 @@ use Rattle.runs.proofs.four_on.Goals as goal
 pub returns-then-all_still : goal.returns-then-all_still
 returns-then-all_still c =
     let x = c.args in (
-      rw (c.still_by-wd.ensures, c.still_by-wc.ensures, c.still_by-wb.ensures, c.still_by-wa.ensures) refl,
+      rw (c.still_by-then-all_still-3.ensures, c.still_by-then-all_still-2.ensures, c.still_by-then-all_still.ensures, c.still_by.ensures) refl,
       rw (c.stream_of-sd.ensures, c.stream_of-sc.ensures, c.stream_of-sb.ensures, c.stream_of-sa.ensures) at c.add_four.ensures
-          ∙ four_sweep x.pool.now x.frames (length x.pool.now) x.a x.b x.c x.d x.ca x.cb x.cc x.cd x.out.now (c.all_still.ensures c.if-all_still.true) c.requires,
+          ∙ four_sweep x.pool.now x.frames (length x.pool.now) x.v.a x.v.b x.v.c x.v.d x.clips.a x.clips.b x.clips.c x.clips.d x.out.now (c.all_still.ensures c.if-all_still.true) c.requires,
     )

@@ -48,7 +48,7 @@ pub returns-then-voices-eq0 : goal.returns-then-voices-eq0
 unfolding stage_at view_of
 returns-then-voices-eq0 c =
     let o = c.over_frames-gone.ensures in
-    let k = c.tail_slot-tslot.ensures in
+    let k = c.tail_slot.ensures in
     let z = c.if-voices-eq0.true in
     let view = view_of c.args.pool.now c.args.bank in
     let t = recording_of c.args.pool.now (tail_in c.args.bank c.args.stage) in (
@@ -74,9 +74,9 @@ pub returns : goal.returns
 unfolding stage_at view_of
 returns c =
     let a = c.voices_ahead-ahead.ensures in
-    let m = c.mix_on-next_voices.ensures in
+    let m = c.mix_on-voices.ensures in
     let o = c.over_frames-gone-2.ensures in
-    let k = c.tail_slot-tslot.ensures in
+    let k = c.tail_slot.ensures in
     let view = view_of c.args.pool.now c.args.bank in
     let t = recording_of c.args.pool.now (tail_in c.args.bank c.args.stage) in (
       omega (arith, c.if-ahead-eq0.false),

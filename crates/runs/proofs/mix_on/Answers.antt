@@ -48,15 +48,15 @@ pub loop-i-preserved-then-count-i-ge4 : goal.loop-i-preserved-then-count-i-ge4
 loop-i-preserved-then-count-i-ge4 c =
     rw (c.four_on-w.ensures.0, c.four_on-w.ensures.1) (able_four c.args.pool.now c.args.bank (omega arith) c.args.frames past_clip c.args.voices c.requires.0 c.requires.1 _ c.loop-i.invariant past_voice (omega arith))
 
-pub bounds-bank-slot : goal.bounds-bank-slot
-bounds-bank-slot c = (able_its c.args.pool.now c.args.bank (omega arith) c.args.frames past_clip c.args.voices c.requires.0 c.requires.1 _ c.loop-i.invariant past_voice _ (omega arith) (omega arith)).slot
+pub bounds-bank-v : goal.bounds-bank-v
+bounds-bank-v c = (able_its c.args.pool.now c.args.bank (omega arith) c.args.frames past_clip c.args.voices c.requires.0 c.requires.1 _ c.loop-i.invariant past_voice _ (omega arith) (omega arith)).slot
 
-pub voice_on-w-requires : goal.voice_on-w-requires
-voice_on-w-requires c = ((able_its c.args.pool.now c.args.bank (omega arith) c.args.frames past_clip c.args.voices c.requires.0 c.requires.1 _ c.loop-i.invariant past_voice _ (omega arith) (omega arith)).lasts, omega (arith, c.loop-i.invariant))
+pub voice_on-requires : goal.voice_on-requires
+voice_on-requires c = ((able_its c.args.pool.now c.args.bank (omega arith) c.args.frames past_clip c.args.voices c.requires.0 c.requires.1 _ c.loop-i.invariant past_voice _ (omega arith) (omega arith)).lasts, omega (arith, c.loop-i.invariant))
 
 pub loop-i-preserved : goal.loop-i-preserved
 loop-i-preserved c =
-    rw (c.voice_on-w.ensures.0, c.voice_on-w.ensures.1) (able_turn c.args.pool.now c.args.bank (omega arith) c.args.frames past_clip c.args.voices c.requires.0 c.requires.1 _ c.loop-i.invariant past_voice _ _ refl (omega arith) c.loop-i-test.true c.loop-i.invariant)
+    rw (c.voice_on.ensures.0, c.voice_on.ensures.1) (able_turn c.args.pool.now c.args.bank (omega arith) c.args.frames past_clip c.args.voices c.requires.0 c.requires.1 _ c.loop-i.invariant past_voice _ _ refl (omega arith) c.loop-i-test.true c.loop-i.invariant)
 
 pub returns : goal.returns
 returns c =

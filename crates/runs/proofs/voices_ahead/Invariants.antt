@@ -3,4 +3,4 @@ use Rattle.runs.proofs.Looking.{Looking}
 use Rattle.runs.proofs.voices_ahead.Given as goal
 
 abbrev pub invariant-loop-i : goal.invariant-loop-i
-invariant-loop-i l = Looking l.pool l.bank l.most (record { table = l.table; count = l.count }) l.least l.i
+invariant-loop-i l = Looking l.pool l.bank l.most l.voices l.least l.i

@@ -5,4 +5,4 @@ use Rattle.runs.proofs.Core.frame.Goals as goal
 pub returns : goal.returns
 unfolding core_on core_gives
 returns c =
-    rw (c.plus.ensures, c.step_of-faded.ensures, c.times.ensures, c.tick-ticked.ensures, c.played-pair.ensures, c.step-moved.ensures, c.extent_of.ensures)
+    rw (c.plus.ensures, c.step_of-faded.ensures, c.times.ensures, c.tick-ticked.ensures, c.played-pair.ensures, c.step-moved.ensures, c.extent_of-extent.ensures)
