@@ -1,3 +1,4 @@
+pub mod FromBack
 pub mod Tests
 pub mod Made
 pub mod Fields

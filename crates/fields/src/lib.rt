@@ -162,15 +162,10 @@ pub fn listed_twice(clips: &[u64; 32]) -> bool
 fn place_of(clips: &[u64; 32], w: u64) -> u8
     ensures { result ≡ place_below clips.now w 32 }
 {
-    let mut k: usize = 32;
-    while 0 < k {
-        let j = k - 1;
-        if clips[j] == w {
-            return j as u8;
-        }
-        k = j;
+    match clips.iter().rposition(|x| *x == w) {
+        Some(i) => i as u8,
+        None => 32,
     }
-    32
 }
 
 /// The clip byte of a handle; 32 if it is not listed.
