@@ -317,14 +317,7 @@ fn one_frame(rt: &impl Print, s: Session, pool: &[f32]) -> io::Result<Session> {
 
 /// Sixteen voices that end on different frames: one leaves after each.
 fn voices_end(rt: &impl Print, pool: &[f32]) -> io::Result<()> {
-    let mut s = sounding(
-        LONG,
-        TransportState::Stopped,
-        None,
-        1.0,
-        sixteen(),
-        0,
-    );
+    let mut s = sounding(LONG, TransportState::Stopped, None, 1.0, sixteen(), 0);
     text(
         rt,
         b"sixteen voices of 0.0625 that end on different frames: the sum, and how many are left\n",

@@ -1,8 +1,8 @@
 //! The sheet: a line for each block and one for each thing that the guide does.
 ghost use Rattle.std.specs.Prelude.{◌≤◌};
 
-use control::PerformanceSnapshot;
 use crate::score::Cue;
+use control::PerformanceSnapshot;
 use counts::Handle;
 use print::{column, number, text};
 use session::{Refusal, Session};
