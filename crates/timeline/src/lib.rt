@@ -117,6 +117,27 @@ pub struct QueueRecord {
     pub command: Command,
 }
 
+// The kinds of a row, in the rules' order.
+const PLAY: u64 = 1;
+
+const PAUSE: u64 = 2;
+
+const STOP: u64 = 3;
+
+const SEEK: u64 = 4;
+
+const TRANSITION: u64 = 5;
+
+const LOOP: u64 = 6;
+
+const CLEAR_LOOP: u64 = 7;
+
+const GAIN: u64 = 8;
+
+const SWAP: u64 = 9;
+
+const STINGER: u64 = 10;
+
 /// A record as it lies in a lent store: five words, the kind from 1 to 10.
 #[derive(Clone, Copy)]
 pub struct Row {
@@ -199,16 +220,16 @@ pub fn row_of(r: QueueRecord) -> Row
     let n = r.number;
     let command = r.command;
     match command {
-        Command::Play => Row::new(t, n, 1, 0, 0),
-        Command::Pause => Row::new(t, n, 2, 0, 0),
-        Command::Stop => Row::new(t, n, 3, 0, 0),
-        Command::Seek(f) => Row::new(t, n, 4, f.0, 0),
-        Command::Transition(f) => Row::new(t, n, 5, f.0, 0),
-        Command::Loop(s, e) => Row::new(t, n, 6, s.0, e.0),
-        Command::ClearLoop => Row::new(t, n, 7, 0, 0),
-        Command::Gain(g) => Row::new(t, n, 8, gain_word(g), 0),
-        Command::Swap(h) => Row::new(t, n, 9, handle_word(h), 0),
-        Command::Stinger(h, g) => Row::new(t, n, 10, handle_word(h), gain_word(g)),
+        Command::Play => Row::new(t, n, PLAY, 0, 0),
+        Command::Pause => Row::new(t, n, PAUSE, 0, 0),
+        Command::Stop => Row::new(t, n, STOP, 0, 0),
+        Command::Seek(f) => Row::new(t, n, SEEK, f.0, 0),
+        Command::Transition(f) => Row::new(t, n, TRANSITION, f.0, 0),
+        Command::Loop(s, e) => Row::new(t, n, LOOP, s.0, e.0),
+        Command::ClearLoop => Row::new(t, n, CLEAR_LOOP, 0, 0),
+        Command::Gain(g) => Row::new(t, n, GAIN, gain_word(g), 0),
+        Command::Swap(h) => Row::new(t, n, SWAP, handle_word(h), 0),
+        Command::Stinger(h, g) => Row::new(t, n, STINGER, handle_word(h), gain_word(g)),
     }
 }
 
@@ -218,9 +239,9 @@ pub fn readable(x: Row) -> bool
 {
     let kind = x.kind;
     match kind {
-        8 => x.first < 0x1_0000_0000,
-        10 => x.second < 0x1_0000_0000,
-        _ => (1 <= kind) & (kind <= 10),
+        GAIN => x.first < 0x1_0000_0000,
+        STINGER => x.second < 0x1_0000_0000,
+        _ => (PLAY <= kind) & (kind <= STINGER),
     }
 }
 
@@ -231,8 +252,8 @@ fn row_gain_ok(x: Row) -> bool
 {
     let kind = x.kind;
     match kind {
-        8 => finite_word(x.first),
-        10 => {
+        GAIN => finite_word(x.first),
+        STINGER => {
             if finite_word(x.second) {
                 stinger_gain_ok(gain_of(x.second))
             } else {
@@ -250,15 +271,15 @@ fn read_command(x: Row) -> Command
 {
     let kind = x.kind;
     match kind {
-        2 => Command::Pause,
-        3 => Command::Stop,
-        4 => Command::Seek(SongFrame(x.first)),
-        5 => Command::Transition(SongFrame(x.first)),
-        6 => Command::Loop(SongFrame(x.first), SongFrame(x.second)),
-        7 => Command::ClearLoop,
-        8 => Command::Gain(gain_of(x.first)),
-        9 => Command::Swap(handle_of(x.first)),
-        10 => Command::Stinger(handle_of(x.first), gain_of(x.second)),
+        PAUSE => Command::Pause,
+        STOP => Command::Stop,
+        SEEK => Command::Seek(SongFrame(x.first)),
+        TRANSITION => Command::Transition(SongFrame(x.first)),
+        LOOP => Command::Loop(SongFrame(x.first), SongFrame(x.second)),
+        CLEAR_LOOP => Command::ClearLoop,
+        GAIN => Command::Gain(gain_of(x.first)),
+        SWAP => Command::Swap(handle_of(x.first)),
+        STINGER => Command::Stinger(handle_of(x.first), gain_of(x.second)),
         _ => Command::Play,
     }
 }
@@ -375,7 +396,7 @@ pub fn drop_transitions(store: &mut [u64], n: usize) -> usize
     requires { n * 5 ≤ length store.old }
     ensures { (store.new ≡ (drop_transitions store.old n).words) × (result ≡ (drop_transitions store.old n).count) }
 {
-    drop_rows(store, n, |x| x.kind == 5)
+    drop_rows(store, n, |x| x.kind == TRANSITION)
 }
 
 /// Whether a Transition of that number is queued.
@@ -385,7 +406,7 @@ fn is_queued(store: &[u64], n: usize, number: u64) -> bool
 {
     (0..n).any(|j| {
         let x = row_at(store, j);
-        (x.kind == 5) & (x.number == number)
+        (x.kind == TRANSITION) & (x.number == number)
     })
 }
 
@@ -410,7 +431,7 @@ pub fn count_stingers(store: &[u64], n: usize) -> usize
     requires { n * 5 ≤ length store.now }
     ensures { result ≡ stingers store.now n }
 {
-    count_kind(store, n, 10)
+    count_kind(store, n, STINGER)
 }
 
 /// How many Transitions are queued.
@@ -418,7 +439,7 @@ pub fn count_transitions(store: &[u64], n: usize) -> usize
     requires { n * 5 ≤ length store.now }
     ensures { result ≡ transitions store.now n }
 {
-    count_kind(store, n, 5)
+    count_kind(store, n, TRANSITION)
 }
 
 /// How many of the m captured records would go with the queued Transitions.
@@ -445,7 +466,7 @@ fn holds_row(h: Handle, x: Row) -> bool
     ensures { result ≡ holds_row h x }
 {
     let word = handle_word(h);
-    (x.first == word) & ((x.kind == 9) | (x.kind == 10))
+    (x.first == word) & ((x.kind == SWAP) | (x.kind == STINGER))
 }
 
 /// Whether one of n records holds the handle.
@@ -501,7 +522,7 @@ fn number_ok(number: u64, last: u64) -> bool
 pub fn holds_clip(kind: u64) -> bool
     ensures { result ≡ eqb kind 9 || eqb kind 10 }
 {
-    (kind == 9) | (kind == 10)
+    (kind == SWAP) | (kind == STINGER)
 }
 
 /// A record is readable, and its gain, if it has one, as refusal 14 allows.
@@ -510,9 +531,9 @@ fn reads(x: Row) -> bool
 {
     let kind = x.kind;
     match kind {
-        8 => (x.first < 0x1_0000_0000) & finite_word(x.first),
-        10 => { if readable(x) { row_gain_ok(x) } else { false } }
-        _ => (1 <= kind) & (kind <= 10),
+        GAIN => (x.first < 0x1_0000_0000) & finite_word(x.first),
+        STINGER => { if readable(x) { row_gain_ok(x) } else { false } }
+        _ => (PLAY <= kind) & (kind <= STINGER),
     }
 }
 
