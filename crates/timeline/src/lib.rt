@@ -253,13 +253,7 @@ fn row_gain_ok(x: Row) -> bool
     let kind = x.kind;
     match kind {
         GAIN => finite_word(x.first),
-        STINGER => {
-            if finite_word(x.second) {
-                stinger_gain_ok(gain_of(x.second))
-            } else {
-                false
-            }
-        }
+        STINGER => finite_word(x.second) && stinger_gain_ok(gain_of(x.second)),
         _ => true,
     }
 }
@@ -481,10 +475,7 @@ pub fn holds(store: &[u64], n: usize, h: Handle) -> bool
 fn sooner(x: Row, y: Row) -> bool
     ensures { result ≡ sooner x y }
 {
-    if x.at < y.at {
-        return true;
-    }
-    (x.at == y.at) & (x.number < y.number)
+    (x.at, x.number) < (y.at, y.number)
 }
 
 /// Record j executes strictly before the one below it.
@@ -532,7 +523,7 @@ fn reads(x: Row) -> bool
     let kind = x.kind;
     match kind {
         GAIN => (x.first < 0x1_0000_0000) & finite_word(x.first),
-        STINGER => { if readable(x) { row_gain_ok(x) } else { false } }
+        STINGER => readable(x) && row_gain_ok(x),
         _ => (PLAY <= kind) & (kind <= STINGER),
     }
 }

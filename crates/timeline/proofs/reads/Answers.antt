@@ -17,7 +17,7 @@ pub returns-then-readable : goal.returns-then-readable
 returns-then-readable c = rw (sym c.readable.ensures ∙ c.if-readable.true) c.row_gain_ok.ensures
 
 pub returns-else-readable : goal.returns-else-readable
-returns-else-readable c = rw (sym c.readable.ensures ∙ c.if-readable.false) refl
+returns-else-readable c = rw (sym c.readable.ensures ∙ c.if-readable.false) c.if-readable.false
 
 pub returns-in_default : goal.returns-in_default
 unfolding readable

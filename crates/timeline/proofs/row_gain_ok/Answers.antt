@@ -19,7 +19,7 @@ returns-then-finite_word c = rw (c.in-10.is, sym c.gain_of.ensures) c.stinger_ga
 
 pub returns-else-finite_word : goal.returns-else-finite_word
 unfolding read_of
-returns-else-finite_word c = rw (c.in-10.is, sym c.finite_word-in-10.ensures ∙ c.if-finite_word.false) refl
+returns-else-finite_word c = rw (c.in-10.is, sym c.finite_word-in-10.ensures ∙ c.if-finite_word.false) c.if-finite_word.false
 
 pub returns-in_default : goal.returns-in_default
 returns-in_default c = sym (no_gain c.args.x (ne_eqb _ _ c.in_default.in_default-own.rest.0.1) (ne_eqb _ _ c.in_default.in_default-own.rest.1))
