@@ -90,12 +90,12 @@ pub enum Submission {
     Stinger(Handle, f32),
 }
 
-impl Submission {
+impl From<Submission> for Command {
+    ghost from_gives = { λ s c. c ≡ command_of s };
+
     /// The command that is submitted.
-    pub fn command(self) -> Command
-        ensures { result ≡ command_of self }
-    {
-        match self {
+    fn from(s: Submission) -> Command {
+        match s {
             Submission::Play => Command::Play,
             Submission::Pause => Command::Pause,
             Submission::Stop => Command::Stop,
