@@ -137,7 +137,7 @@ fn weigh_submit(s: Session, queue: &[u64], capture: &[u64], x: Submission) -> Re
     if !session::well_formed(s, queue, capture) {
         return Err(Refusal::NotWellFormed);
     }
-    let command = x.command();
+    let command = Command::from(x);
     let room = capture_room(s);
     let scales = scales_of(s, queue, room);
     let stands = stands_now(s, command);
@@ -219,7 +219,7 @@ pub fn submit(
 {
     let weighed = weigh_submit(s, &queue[..], &capture[..], x);
     match weighed {
-        Ok(()) => take(s, queue, capture, x.command(), at),
+        Ok(()) => take(s, queue, capture, Command::from(x), at),
         Err(k) => refuse(s, k),
     }
 }

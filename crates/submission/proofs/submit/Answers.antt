@@ -7,11 +7,11 @@ use Rattle.submission.proofs.submit.Goals as goal
 
 pub take-requires : goal.take-requires
 unfolding weigh_submit
-take-requires c = rw c.command.ensures (not_refused _ _ _ _ (sym c.weigh_submit-weighed.ensures ∙ c.in-Ok.is))
+take-requires c = rw c.from.ensures (not_refused _ _ _ _ (sym c.weigh_submit-weighed.ensures ∙ c.in-Ok.is))
 
 pub returns-in-Ok : goal.returns-in-Ok
 unfolding submit_of
-returns-in-Ok c = rw c.command.ensures at c.take.ensures ∙ sym (unless_fine _ _ _ (sym c.weigh_submit-weighed.ensures ∙ c.in-Ok.is))
+returns-in-Ok c = rw c.from.ensures at c.take.ensures ∙ sym (unless_fine _ _ _ (sym c.weigh_submit-weighed.ensures ∙ c.in-Ok.is))
 
 pub returns-in-Err : goal.returns-in-Err
 unfolding submit_of

@@ -15,4 +15,4 @@ scales_of-scales-requires c = scales_ready _ _ _ (sym c.well_formed-2.ensures �
 
 pub returns : goal.returns
 unfolding weigh_submit
-returns c = skip _ _ _ _ (ap not (sym c.well_formed-2.ensures ∙ c.if-not-well_formed.false)) (rw (c.scales_of-scales.ensures, c.stands_now-stands.ensures, c.capture_room-room.ensures, c.command-command.ensures) at c.weigh_command.ensures)
+returns c = skip _ _ _ _ (ap not (sym c.well_formed-2.ensures ∙ c.if-not-well_formed.false)) (rw (c.scales_of-scales.ensures, c.stands_now-stands.ensures, c.capture_room-room.ensures, c.from-command.ensures) at c.weigh_command.ensures)
