@@ -36,9 +36,6 @@ pub const POOL_CAP: u64 = 33554432;
 /// The clock goes no further.
 pub const CLOCK_END: u64 = 4611686018427387904;
 
-/// The last number that a count holds, 2^64 - 1: the dropped count is held there.
-const LAST: u64 = 18446744073709551615;
-
 /// What only calls other than a block change: the last submission number given, the deepest depth, the dropped count,
 /// and whether capture is on, with how many records.
 #[derive(Clone, Copy)]
@@ -219,7 +216,7 @@ pub fn extent_now(s: Session) -> SongFrame
 pub fn one_more(n: u64) -> u64
     ensures { result ≡ min (n + 1) (2 ^ 64 - 1) }
 {
-    if n < LAST { n + 1 } else { LAST }
+    n.saturating_add(1)
 }
 
 /// A refused call leaves the session; 15 alone counts as dropped, and stops at 2^64 - 1.
@@ -316,14 +313,11 @@ fn voices_ok(b: Bank, rate: u32, voices: Voices) -> bool
     requires { voices.count ≤ 16 }
     ensures { (s : Session) → s.bank ≡ b → s.settings.rate ≡ rate → result ≡ all_below voices.count (λ i. voice_ok s (voice_at voices i)) }
 {
-    let mut i: usize = 0;
-    while i < voices.count {
+    for i in 0..voices.count {
         let v = voices.table[i];
         let place = bank::place_of(v.handle);
         let clip = b.clips[place];
-        if voice_ok(b.used, clip, rate, v) {
-            i += 1;
-        } else {
+        if !voice_ok(b.used, clip, rate, v) {
             return false;
         }
     }
@@ -356,8 +350,7 @@ fn queued_ok(b: Bank, rate: u32, last: u64, most: usize, store: &[u64], n: usize
     ensures { result ≡ all_below n (λ j. ordered_at store.now j && (entry_ok last (row_at store.now j) && claim_ok b rate (claim_of (read_of (row_at store.now j))))) && leb (stingers store.now n) most }
 {
     let mut stingers: usize = 0;
-    let mut j: usize = 0;
-    while j < n {
+    for j in 0..n {
         if !timeline::ordered_at(store, j) {
             return false;
         }
@@ -365,17 +358,15 @@ fn queued_ok(b: Bank, rate: u32, last: u64, most: usize, store: &[u64], n: usize
         if !timeline::entry_ok(x, last) {
             return false;
         }
-        if timeline::holds_clip(x.kind) {
-            let place = bank::place_of(timeline::handle_of(x.first));
-            let clip = b.clips[place];
-            if !row_held(b.used, clip, rate, x) {
-                return false;
-            }
-            stingers = stingers + voices_of(x.kind);
-            j += 1;
-        } else {
-            j += 1;
+        if !timeline::holds_clip(x.kind) {
+            continue;
         }
+        let place = bank::place_of(timeline::handle_of(x.first));
+        let clip = b.clips[place];
+        if !row_held(b.used, clip, rate, x) {
+            return false;
+        }
+        stingers += voices_of(x.kind);
     }
     stingers <= most
 }
@@ -385,8 +376,7 @@ fn captured_ok(b: Bank, rate: u32, last: u64, store: &[u64], n: usize) -> bool
     requires { n * 5 ≤ length store.now }
     ensures { result ≡ all_below n (λ j. rising_at store.now j && (entry_ok last (row_at store.now j) && claim_ok b rate (claim_of (read_of (row_at store.now j))))) }
 {
-    let mut i: usize = 0;
-    while i < n {
+    for i in 0..n {
         if !timeline::rising_at(store, i) {
             return false;
         }
@@ -394,15 +384,13 @@ fn captured_ok(b: Bank, rate: u32, last: u64, store: &[u64], n: usize) -> bool
         if !timeline::entry_ok(x, last) {
             return false;
         }
-        if timeline::holds_clip(x.kind) {
-            let place = bank::place_of(timeline::handle_of(x.first));
-            let clip = b.clips[place];
-            if !row_held(b.used, clip, rate, x) {
-                return false;
-            }
-            i += 1;
-        } else {
-            i += 1;
+        if !timeline::holds_clip(x.kind) {
+            continue;
+        }
+        let place = bank::place_of(timeline::handle_of(x.first));
+        let clip = b.clips[place];
+        if !row_held(b.used, clip, rate, x) {
+            return false;
         }
     }
     true

@@ -37,15 +37,15 @@ overflow_add-stingers c =
     let few = stingers_few c.args.store.now c.loop-j.j c.loop-j.stingers c.loop-j.invariant.2 in
     omega (arith, few, one_at_most (eqb c.row_at-x.result.kind 10) c.voices_of-stingers.result c.voices_of-stingers.ensures, c.loop-j-test.true, c.ranges.n.fits)
 
-pub loop-j-preserved-then-holds_clip : goal.loop-j-preserved-then-holds_clip
-loop-j-preserved-then-holds_clip c =
+pub loop-j-preserved : goal.loop-j-preserved
+loop-j-preserved c =
     let m : length c.args.b.clips ≡ 32 = omega arith in
     (omega (arith, c.loop-j-test.true), passed_next c.args.b c.args.rate c.args.last (ordered_at c.args.store.now) c.args.store.now c.loop-j.j _ c.row_at-x.ensures c.loop-j.invariant.1 (passes c.ordered_at.ensures c.if-not-ordered_at.false) (passes c.entry_ok.ensures c.if-not-entry_ok.false) (passes (c.row_held.ensures c.args.b refl (clip_read c.args.b c.args.b refl m _ _ _ (rw c.handle_of.ensures at c.place_of-place.ensures))) c.if-not-row_held.false), stingers_next c.args.store.now c.loop-j.j _ c.row_at-x.ensures _ _ c.loop-j.invariant.2 (ap (λ n. c.loop-j.stingers + n) c.voices_of-stingers.ensures))
 
-pub loop-j-preserved : goal.loop-j-preserved
-loop-j-preserved c =
+pub loop-j-preserved-then-not-holds_clip : goal.loop-j-preserved-then-not-holds_clip
+loop-j-preserved-then-not-holds_clip c =
     let a = c.args in
-    let none = sym c.holds_clip.ensures ∙ c.if-holds_clip.false in
+    let none = sym c.holds_clip.ensures ∙ c.if-not-holds_clip.true in
     (omega (arith, c.loop-j-test.true), passed_next c.args.b c.args.rate c.args.last (ordered_at c.args.store.now) c.args.store.now c.loop-j.j _ c.row_at-x.ensures c.loop-j.invariant.1 (passes c.ordered_at.ensures c.if-not-ordered_at.false) (passes c.entry_ok.ensures c.if-not-entry_ok.false) (clipless a.b a.rate _ none), stingers_stay a.store.now c.loop-j.j _ c.row_at-x.ensures _ c.loop-j.invariant.2 none)
 
 pub returns : goal.returns

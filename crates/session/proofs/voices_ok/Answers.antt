@@ -35,13 +35,13 @@ pub loop-i-preserved : goal.loop-i-preserved
 loop-i-preserved c =
     let m : length c.args.b.clips ≡ 32 = omega arith in
     let l : c.loop-i.i < length c.args.voices.table = omega arith in
-    (search rules, λ s e r. below_more _ _ (c.loop-i.invariant.1 s e r) ((found c.args.b c.args.rate c.args.voices c.loop-i.i _ _ _ _ m l c.place_of-place.ensures c.voice_ok.ensures s e r) ∙ c.if-voice_ok.true))
+    (search rules, λ s e r. below_more _ _ (c.loop-i.invariant.1 s e r) ((found c.args.b c.args.rate c.args.voices c.loop-i.i _ _ _ _ m l c.place_of-place.ensures c.voice_ok.ensures s e r) ∙ c.if-not-voice_ok.false))
 
-pub returns-else-voice_ok : goal.returns-else-voice_ok
-returns-else-voice_ok c s e r =
+pub returns-then-not-voice_ok : goal.returns-then-not-voice_ok
+returns-then-not-voice_ok c s e r =
     let m : length c.args.b.clips ≡ 32 = omega arith in
     let l : c.loop-i.i < length c.args.voices.table = omega arith in
-    sym (all_false _ _ c.loop-i.i c.loop-i-test.true ((found c.args.b c.args.rate c.args.voices c.loop-i.i _ _ _ _ m l c.place_of-place.ensures c.voice_ok.ensures s e r) ∙ c.if-voice_ok.false))
+    sym (all_false _ _ c.loop-i.i c.loop-i-test.true ((found c.args.b c.args.rate c.args.voices c.loop-i.i _ _ _ _ m l c.place_of-place.ensures c.voice_ok.ensures s e r) ∙ c.if-not-voice_ok.true))
 
 pub returns : goal.returns
 returns c s e r = sym (all_true _ _ (λ k h. c.loop-i.invariant.1 s e r k (omega arith)))
