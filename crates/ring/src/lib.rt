@@ -108,15 +108,14 @@ pub fn drain(r: SampleRing, store: &[f32], out: &mut [f32]) -> Drained
             ring: r,
         };
     }
-    let waiting = r.held(size);
-    let whole = (out.len() / 2).min(waiting / 2);
+    let whole = (out.len() / 2).min(r.held(size) / 2);
     let taken = whole * 2;
-    let head = r.head;
-    pour(store, head, taken, &mut out[..]);
-    let mut r = r;
-    r.head = place(size, head, taken);
+    pour(store, r.head, taken, out);
     Drained {
         answer: Ok(whole),
-        ring: r,
+        ring: SampleRing {
+            head: place(size, r.head, taken),
+            ..r
+        },
     }
 }

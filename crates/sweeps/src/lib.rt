@@ -35,7 +35,7 @@ fn add_still(pool: &[f32], part: Option<usize>, out: &mut [f32], from: usize, to
 {
     for k in from..to {
         let x = share(pool, part, k);
-        out[k] = out[k] + x * gain;
+        out[k] += x * gain;
     }
 }
 
@@ -100,8 +100,8 @@ fn add_rising(pool: &[f32], part: Option<usize>, out: &mut [f32], frames: usize,
         let n = k + 1;
         let x = share(pool, part, k);
         let y = share(pool, part, n);
-        out[k] = out[k] + x * g;
-        out[n] = out[n] + y * g;
+        out[k] += x * g;
+        out[n] += y * g;
         r = next;
     }
     r
@@ -132,11 +132,8 @@ pub fn add_part(
         return risen;
     }
     // In the next frame it lands, or nothing remains: from there on the value stays.
-    let t = risen.tick();
-    let r = t.ramp;
-    let from = rising * 2;
-    let to = frames * 2;
-    add_still(pool, part, &mut out[..], from, to, r.value);
+    let r = risen.tick().ramp;
+    add_still(pool, part, out, rising * 2, frames * 2, r.value);
     r
 }
 

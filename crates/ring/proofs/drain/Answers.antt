@@ -17,8 +17,8 @@ pub place-requires : goal.place-requires
 place-requires c =
     let a = c.args in
     let w : Within (length a.store.now) a.r = within _ _ (sym c.is_within.ensures ∙ c.if-not-is_within.false) in
-    (w.head, omega (arith, (c.min-whole.ensures ∙ ap (λ (x : ℕ). min (length c.args.out.now / 2) (x / 2)) c.held-waiting.ensures), whole_held (length a.store.now) a.r (length a.out.now), held_lt _ _ w), w.most)
+    (w.head, omega (arith, (c.min-whole.ensures ∙ ap (λ (x : ℕ). min (length c.args.out.now / 2) (x / 2)) c.held.ensures), whole_held (length a.store.now) a.r (length a.out.now), held_lt _ _ w), w.most)
 
 pub returns : goal.returns
 returns c =
-    drain_gives _ _ (within _ _ (sym c.is_within.ensures ∙ c.if-not-is_within.false)) _ _ (c.min-whole.ensures ∙ ap (λ (x : ℕ). min (length c.args.out.now / 2) (x / 2)) c.held-waiting.ensures) _ c.place.ensures _ c.pour.ensures
+    drain_gives _ _ (within _ _ (sym c.is_within.ensures ∙ c.if-not-is_within.false)) _ _ (c.min-whole.ensures ∙ ap (λ (x : ℕ). min (length c.args.out.now / 2) (x / 2)) c.held.ensures) _ c.place.ensures _ c.pour.ensures

@@ -11,6 +11,6 @@ returns c =
     let e = c.rises-rising.ensures in
     let a = c.add_rising-risen.ensures in
     let n = c.if-rising-frames.false in
-    let t = ap (λ u. u.ramp) c.tick-t.ensures ∙ ap (λ u. (tick_of u).ramp) a.0 in
+    let t = ap (λ u. u.ramp) c.tick.ensures ∙ ap (λ u. (tick_of u).ramp) a.0 in
     let m = part_ramp s.pool.now s.part s.ramp s.frames s.out.now _ (omega (arith, e, n)) (omega (arith, e, n)) _ t in
     (m, rw (c.add_still.ensures, a.1) (part_done s.pool.now s.part s.ramp s.frames s.out.now _ (omega (arith, e, n)) (omega (arith, e, n)) _ t))

@@ -5,4 +5,4 @@ use Rattle.oneshot.proofs.Voices.none.Goals as goal
 
 pub returns : goal.returns
 unfolding of_bits no_voices
-returns c = rw c.new-gain.ensures
+returns c = rw c.new.ensures
