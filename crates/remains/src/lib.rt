@@ -126,11 +126,7 @@ fn run_end(file: &[u8], p: Progress) -> usize
     ensures { result ≡ run_end (length file.now) file.now p }
 {
     for at in p.at..file.len() {
-        let q = Progress {
-            at,
-            count: p.count,
-            last: p.last,
-        };
+        let q = Progress { at, ..p };
         if !matches!(what_at(file, q), Fate::Dropped) {
             return at;
         }
@@ -146,8 +142,7 @@ fn next_place(file: &[u8], p: Progress, w: Fate) -> Progress
     if let Fate::Dropped = w {
         return Progress {
             at: run_end(file, p),
-            count: p.count,
-            last: p.last,
+            ..p
         };
     }
     let at = p.at;

@@ -234,11 +234,7 @@ pub fn behind(p: Progress, f: &[u8]) -> Progress
             last: fields::eight(f, 11),
         };
     }
-    Progress {
-        at,
-        count: p.count,
-        last: p.last,
-    }
+    Progress { at, ..p }
 }
 
 /// A faulty field and the last one give the answer, any other the way on.
@@ -319,10 +315,8 @@ pub fn fill(clips: &[u64; 32], file: &[u8], list: &mut [u64])
         if fields::byte(f, 0) == 2 {
             timeline::put_row(list, k, row_in(clips, f));
             k += 1;
-            at += n;
-        } else {
-            at += n;
         }
+        at += n;
     }
 }
 
