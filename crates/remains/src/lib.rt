@@ -156,11 +156,7 @@ fn next_place(file: &[u8], p: Progress, w: Fate) -> Progress
 fn measure(file: &[u8]) -> Tally
     ensures { result ≡ tally_of file.now }
 {
-    let mut p = Progress {
-        at: 0,
-        count: 0,
-        last: 0,
-    };
+    let mut p = Progress::default();
     let mut bytes: usize = 0;
     let mut ranges: usize = 0;
     while p.at < file.len() {
@@ -196,11 +192,7 @@ fn put_kept(file: &[u8], out: &mut [u8]) -> usize
     requires { 10 + length (laid (kept_fields file.now (ranges_of file.now))) ≤ length out.old }
     ensures { (out.new ≡ sets out.old 5 (laid (kept_fields file.now (ranges_of file.now)))) × (result ≡ 5 + length (laid (kept_fields file.now (ranges_of file.now)))) }
 {
-    let mut p = Progress {
-        at: 0,
-        count: 0,
-        last: 0,
-    };
+    let mut p = Progress::default();
     let mut o: usize = 5;
     while p.at < file.len() {
         let w = what_at(file, p);
@@ -231,11 +223,7 @@ fn put_ranges(file: &[u8], list: &mut [u64])
     requires { length (ranges_of file.now) * 3 ≤ length list.old }
     ensures { list.new ≡ sets list.old 0 (range_words (ranges_of file.now)) }
 {
-    let mut p = Progress {
-        at: 0,
-        count: 0,
-        last: 0,
-    };
+    let mut p = Progress::default();
     let mut k: usize = 0;
     while p.at < file.len() {
         let w = what_at(file, p);

@@ -74,7 +74,7 @@ pub struct TourError {
 }
 
 /// How far the reader has come: the next field's first byte, the commands before it, and the last one's number.
-#[derive(Clone, Copy)]
+#[derive(Clone, Copy, Default)]
 pub struct Progress {
     pub at: usize,
     pub count: usize,
@@ -268,11 +268,7 @@ fn front_turn(clips: &[u64; 32], p: Progress, file: &[u8]) -> Turn
 fn weigh(clips: &[u64; 32], file: &[u8]) -> Result<usize, TourError>
     ensures { result ≡ weighed clips.now start (fields_of file.now) }
 {
-    let mut p = Progress {
-        at: 0,
-        count: 0,
-        last: 0,
-    };
+    let mut p = Progress::default();
     while p.at < file.len() {
         match front_turn(clips, p, file) {
             ControlFlow::Break(a) => return a,

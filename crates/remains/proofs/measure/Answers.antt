@@ -3,8 +3,10 @@ use mathlib.Core.Path.{◌≡◌, refl, sym, ap, ◌∙◌}
 use Prim.Native.Nat.{◌+◌}
 use native.Mathlib.Nat.{add-zero}
 use native.Mathlib.Omega.{arith}
+use borrow.Author.Rules.{rules}
 use lib.ListN.{length}
 use Rattle.tourfile.specs.declared.Progress.{Progress}
+use Rattle.tourfile.specs.Reader.{start}
 use Rattle.remains.specs.Salvage.{what, ranges_of, kept_fields, laid}
 use Rattle.remains.specs.Steps.{next}
 use Rattle.remains.proofs.Runs.{next_at, next_kept, next_other, next_inside}
@@ -15,8 +17,7 @@ use Rattle.remains.proofs.measure.Goals.{in-Kept, in_default}
 
 pub loop-p-init : goal.loop-p-init
 loop-p-init c =
-    let s = from_start c.args.file.now in
-    ((omega arith, omega arith), omega arith, omega arith, rw s (omega arith), rw s (omega arith), rw s (omega arith))
+    let s = from_start c.args.file.now in let d : c.default-p.result ≡ start = search rules in rw d ((omega arith, omega arith), omega arith, omega arith, rw s (omega arith), rw s (omega arith), rw s (omega arith))
 
 pub what_at-w-requires : goal.what_at-w-requires
 what_at-w-requires c = c.loop-p.invariant.0.1
@@ -82,22 +83,22 @@ loop-p-preserved c =
     let t = l.invariant.5 in
     let inside = next_inside a.file.now l.p h l.invariant.0 in
     elim c.match-w.branch [
-      in-Kept v ↦
-        let w = sym c.what_at-w.ensures ∙ v.in-Kept.is in
-        let k = count_kept a.file.now l.p h w in
-        let z = size_kept a.file.now l.p h w in
-        let q : (next a.file.now l.p).count ≡ l.p.count + 1 = ap (λ (q : Progress). q.count) (next_kept a.file.now l.p w) in
-        let g = v.bytes-is in
-        let u : c.next_place-q.result.at ≡ (next a.file.now l.p).at = ap (λ (q : Progress). q.at) e in
-        rw e (inside, omega arith, omega arith, omega arith, omega arith, omega arith)
+      | in-Kept v ↦
+          let w = sym c.what_at-w.ensures ∙ v.in-Kept.is in
+          let k = count_kept a.file.now l.p h w in
+          let z = size_kept a.file.now l.p h w in
+          let q : (next a.file.now l.p).count ≡ l.p.count + 1 = ap (λ (q : Progress). q.count) (next_kept a.file.now l.p w) in
+          let g = v.bytes-is in
+          let u : c.next_place-q.result.at ≡ (next a.file.now l.p).at = ap (λ (q : Progress). q.at) e in
+          rw e (inside, omega arith, omega arith, omega arith, omega arith, omega arith)
       | in_default v ↦
-        let w : what a.file.now l.p ≡ Fate.Kept → ⊥ = (λ z. v.in_default.not-Kept (c.what_at-w.ensures ∙ z)) in
-        let f = fields_other a.file.now l.p h w in
-        let q = (next_other a.file.now l.p w).0 in
-        let i = rw f at l.invariant.3 in
-        let j = rw f at l.invariant.4 in
-        let g = v.bytes-is in
-        rw e (inside, omega arith, omega arith, omega arith, omega arith, omega arith)
+          let w : what a.file.now l.p ≡ Fate.Kept → ⊥ = (λ z. v.in_default.not-Kept (c.what_at-w.ensures ∙ z)) in
+          let f = fields_other a.file.now l.p h w in
+          let q = (next_other a.file.now l.p w).0 in
+          let i = rw f at l.invariant.3 in
+          let j = rw f at l.invariant.4 in
+          let g = v.bytes-is in
+          rw e (inside, omega arith, omega arith, omega arith, omega arith, omega arith)
     ]
 
 pub returns : goal.returns

@@ -3,6 +3,7 @@ use mathlib.Core.Path.{◌≡◌, refl, sym, ◌∙◌}
 use Prim.Native.Nat.{◌+◌}
 use native.Mathlib.Omega.{arith}
 use lib.ListN.{length}
+use Rattle.tourfile.specs.Reader.{start}
 use Rattle.remains.specs.Salvage.{ranges_of, kept_fields, laid}
 use Rattle.remains.proofs.Runs.{next_at, next_inside}
 use Rattle.remains.proofs.Walk.{from_start, from_none, fields_other, size_kept, put_next}
@@ -10,7 +11,7 @@ use borrow.Author.Rules.{rules}
 use Rattle.remains.proofs.put_kept.Goals as goal
 
 pub loop-p-init : goal.loop-p-init
-loop-p-init c = let s = from_start c.args.file.now in ((omega arith, omega arith), refl, rw s refl, rw s refl)
+loop-p-init c = let s = from_start c.args.file.now in let d : c.default-p.result ≡ start = search rules in rw d ((omega arith, omega arith), refl, rw s refl, rw s refl)
 
 pub what_at-w-requires : goal.what_at-w-requires
 what_at-w-requires c = c.loop-p.invariant.0.1

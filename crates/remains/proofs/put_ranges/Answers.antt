@@ -1,6 +1,7 @@
 -- `put_ranges` meets its contract.
-use mathlib.Core.Path.{refl, ◌∙◌}
+use mathlib.Core.Path.{◌≡◌, refl, ◌∙◌}
 use native.Mathlib.Omega.{arith}
+use Rattle.tourfile.specs.Reader.{start}
 use Rattle.remains.specs.Salvage.{range_words}
 use Rattle.remains.proofs.Runs.{next_at, next_inside}
 use Rattle.remains.proofs.Walk.{from_start, from_none, length_next, words_next}
@@ -8,7 +9,7 @@ use borrow.Author.Rules.{rules}
 use Rattle.remains.proofs.put_ranges.Goals as goal
 
 pub loop-p-init : goal.loop-p-init
-loop-p-init c = let s = from_start c.args.file.now in ((omega arith, omega arith), refl, rw s (let r = c.requires in omega arith), rw s refl)
+loop-p-init c = let s = from_start c.args.file.now in let d : c.default-p.result ≡ start = search rules in rw d ((omega arith, omega arith), refl, rw s (let r = c.requires in omega arith), rw s refl)
 
 pub what_at-w-requires : goal.what_at-w-requires
 what_at-w-requires c = c.loop-p.invariant.0.1

@@ -65,14 +65,14 @@ loop-at-preserved c =
     let n = c.piece_size-n.result in
     let e = c.piece_size-n.ensures in
     elim c.if-byte-eq2.branch [
-      then-byte-eq2 w ↦
-        let r = rows_command a.clips.now a.file.now l.at n h e (sym c.byte.ensures ∙ w.if-byte-eq2.true) in
-        let q = rw r at l.invariant.2 in
-        let k = w.k-is in
-        (n_within a.file.now l.at n h e, search rules, omega arith, rw (w.list-is, w.k-is, w.put_row.ensures, w.row_in.ensures) (rw r at l.invariant.3))
+      | then-byte-eq2 w ↦
+          let r = rows_command a.clips.now a.file.now l.at n h e (sym c.byte.ensures ∙ w.if-byte-eq2.true) in
+          let q = rw r at l.invariant.2 in
+          let k = w.k-is in
+          (n_within a.file.now l.at n h e, search rules, omega arith, rw (w.list-is, w.k-is, w.put_row.ensures, w.row_in.ensures) (rw r at l.invariant.3))
       | else-byte-eq2 w ↦
-        let r = rows_other a.clips.now a.file.now l.at n h e (λ z. w.if-byte-eq2.false (c.byte.ensures ∙ z)) in
-        rw (w.list-is, w.k-is) (n_within a.file.now l.at n h e, l.invariant.1, rw r at l.invariant.2, rw r at l.invariant.3)
+          let r = rows_other a.clips.now a.file.now l.at n h e (λ z. w.if-byte-eq2.false (c.byte.ensures ∙ z)) in
+          rw (w.list-is, w.k-is) (n_within a.file.now l.at n h e, l.invariant.1, rw r at l.invariant.2, rw r at l.invariant.3)
     ]
 
 pub returns : goal.returns
