@@ -309,15 +309,10 @@ fn voices_hold(h: Handle, voices: Voices) -> bool
     requires { voices.count ≤ 16 }
     ensures { result ≡ any_below voices.count (λ i. same_handle h (voice_at voices i).handle) }
 {
-    let count = voices.count;
-    let mut i: usize = 0;
-    while i < count {
-        let v = voices.table[i];
-        let k = v.handle;
-        if h == k {
+    for i in 0..voices.count {
+        if h == voices.table[i].handle {
             return true;
         }
-        i += 1;
     }
     false
 }

@@ -318,7 +318,7 @@ fn flag_of(n: u32) -> bool
 fn flag_number(on: bool) -> u32
     ensures { result ≡ flag_number on }
 {
-    if on { 1 } else { 0 }
+    u32::from(on)
 }
 
 fn loop_of(x: HostLoop) -> Option<LoopRange>
@@ -399,12 +399,9 @@ fn slot_named(used: u32, i: usize, kind: u32) -> bool
 fn kinds_ok(h: HostSession) -> bool
     ensures { result ≡ kinds_ok h }
 {
-    let mut i: usize = 0;
-    while i < 32 {
+    for i in 0..32 {
         let c = h.clips[i];
-        if slot_named(h.used, i, c.kind) {
-            i += 1;
-        } else {
+        if !slot_named(h.used, i, c.kind) {
             return false;
         }
     }
@@ -1150,14 +1147,12 @@ pub fn threshreed_block(
     };
     let mut clips = h.clips;
     let mut kinds = true;
-    let mut i: usize = 0;
-    while i < 32 {
+    for i in 0..32 {
         let c = h.clips[i];
         let clip = clip_of(c);
         kinds = kinds & slot_named(h.used, i, c.kind);
         bank.clips[i] = clip;
         clips[i] = clip_numbers(clip);
-        i += 1;
     }
     if !all_named(kinds, h.state, h.looped.set, h.tail.sounding, h.capturing) {
         return block_refused(1, h);

@@ -24,9 +24,6 @@ use session::{Answered, Desk, Refusal, Session};
 use timeline::{Command, Misread, QueueRecord, Row, Submission};
 use transport::At;
 
-/// The last number that is given, 2^64 - 1.
-const LAST: u64 = 18446744073709551615;
-
 /// What a command is weighed against: the session's rate, the queue's depth and capacity, whether a running capture has
 /// room, queued stingers + sounding voices, and the last submission number given.
 #[derive(Clone, Copy)]
@@ -87,7 +84,7 @@ fn weigh_command(w: Scales, stands: Stands, x: Command) -> Result<(), Refusal>
     if voice & (w.stingers == 16) {
         return Err(Refusal::VoicesTaken);
     }
-    if w.number == LAST {
+    if w.number == u64::MAX {
         return Err(Refusal::NumbersSpent);
     }
     Ok(())
@@ -144,13 +141,6 @@ fn weigh_submit(s: Session, queue: &[u64], capture: &[u64], x: Submission) -> Re
     weigh_command(scales, stands, command)
 }
 
-/// The deeper of two depths.
-fn deeper(a: usize, b: usize) -> usize
-    ensures { result ≡ max a b }
-{
-    if a < b { b } else { a }
-}
-
 /// A capture that is on takes a record more; gives how many it then has.
 fn append(capture: &mut [u64], d: Desk, x: Row) -> usize
     requires { d.capturing ≡ true → d.captured * 5 + 5 ≤ length capture.old }
@@ -182,7 +172,7 @@ fn take(s: Session, queue: &mut [u64], capture: &mut [u64], x: Command, at: At) 
     timeline::insert(queue, s.queued, row);
     let captured = append(capture, d, row);
     let depth = s.queued + 1;
-    let deepest = deeper(d.deepest, depth);
+    let deepest = d.deepest.max(depth);
     let mut d = d;
     d.number = number;
     d.deepest = deepest;
@@ -403,11 +393,9 @@ pub fn replay(s: Session, queue: &mut [u64], capture: &[u64], list: &[u64]) -> A
     };
     let mut z = ReplayState { session: s, report };
     let n = list.len() / 5;
-    let mut i = 0;
-    while i < n {
+    for i in 0..n {
         let x = timeline::row_at(list, i);
         z = replay_row(z, &mut queue[..], x);
-        i += 1;
     }
     let report = z.report;
     let session = z.session;

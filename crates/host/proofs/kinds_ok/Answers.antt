@@ -19,11 +19,11 @@ pub loop-i-init : goal.loop-i-init
 loop-i-init c = (search rules, below_none _)
 
 pub loop-i-preserved : goal.loop-i-preserved
-loop-i-preserved c = (search rules, below_more _ _ c.loop-i.invariant.1 (at c.args.h c.loop-i.i _ (omega arith) (omega arith) ∙ sym c.slot_named.ensures ∙ c.if-slot_named.true))
+loop-i-preserved c = (search rules, below_more _ _ c.loop-i.invariant.1 (at c.args.h c.loop-i.i _ (omega arith) (omega arith) ∙ sym c.slot_named.ensures ∙ c.if-not-slot_named.false))
 
-pub returns-else-slot_named : goal.returns-else-slot_named
+pub returns-then-not-slot_named : goal.returns-then-not-slot_named
 unfolding kinds_ok
-returns-else-slot_named c = sym (all_false _ _ c.loop-i.i c.loop-i-test.true (at c.args.h c.loop-i.i _ (omega arith) (omega arith) ∙ sym c.slot_named.ensures ∙ c.if-slot_named.false))
+returns-then-not-slot_named c = sym (all_false _ _ c.loop-i.i c.loop-i-test.true (at c.args.h c.loop-i.i _ (omega arith) (omega arith) ∙ sym c.slot_named.ensures ∙ c.if-not-slot_named.true))
 
 pub returns : goal.returns
 unfolding kinds_ok

@@ -26,9 +26,6 @@ replay_row-z-requires c =
     let few : l.i + 1 < 2 ^ 64 = omega (arith, c.well_formed.1.1.1.0) in
     rw l.invariant.2 (row_ready c.args.s c.args.queue.now c.args.capture.now (not_refused _ _ _ _ (sym c.weigh_only.ensures ∙ c.in_default.is)).0 small c.args.list.now l.i few)
 
-pub overflow_add-i : goal.overflow_add-i
-overflow_add-i c = omega (arith, c.loop-i-test.true, c.well_formed.1.1.1.0)
-
 pub loop-i-preserved : goal.loop-i-preserved
 loop-i-preserved c =
     let l = c.loop-i in

@@ -50,4 +50,4 @@ overflow_add-depth c = omega (arith, take_queue c.args.s c.args.queue.now c.args
 pub returns : goal.returns
 returns c =
     let a = c.args in
-    takes a.s a.queue.now a.capture.now a.x a.at _ _ _ _ _ _ (rw c.clock-clock.ensures at c.deadline-due.ensures) c.row_of-row.ensures c.insert.ensures c.append-captured.ensures.0 c.append-captured.ensures.1 c.deeper-deepest.ensures
+    takes a.s a.queue.now a.capture.now a.x a.at _ _ _ _ _ _ (rw c.clock-clock.ensures at c.deadline-due.ensures) c.row_of-row.ensures c.insert.ensures c.append-captured.ensures.0 c.append-captured.ensures.1 c.max-deepest.ensures

@@ -37,9 +37,9 @@ pub returns-then-voice-w : goal.returns-then-voice-w
 unfolding weigh_command first
 returns-then-voice-w c = grind (arith, common_steps)
 
-pub returns-then-w-eq-LAST : goal.returns-then-w-eq-LAST
+pub returns-then-w-eq18446744073709551615 : goal.returns-then-w-eq18446744073709551615
 unfolding weigh_command first
-returns-then-w-eq-LAST c = grind (arith, common_steps)
+returns-then-w-eq18446744073709551615 c = grind (arith, common_steps)
 
 pub returns : goal.returns
 unfolding weigh_command first
