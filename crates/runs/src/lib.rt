@@ -348,39 +348,48 @@ struct Gone {
     passes: u64,
 }
 
+/// What a core's frames are made by: the settings, the song's clip, and the tail's.
+#[derive(Clone, Copy)]
+struct Given {
+    settings: Settings,
+    song: Clip,
+    clip: Clip,
+}
+
 impl Core {
     /// At most so many frames in which nothing is decided anew.
-    fn ahead(self, song: Clip, clip: Clip, most: usize) -> usize
-        ensures { (result ≤ most) × (0 < result → Calm song clip result self) }
+    fn ahead(self, given: Given, most: usize) -> usize
+        ensures { (result ≤ most) × (0 < result → Calm given.song given.clip result self) }
     {
-        let extent = bank::extent_of(song.kind);
-        let first = song_ahead(self.playhead.transport, song.frames, extent, most);
-        tail_ahead(self.fade.tail, clip.frames, first)
+        let extent = bank::extent_of(given.song.kind);
+        let first = song_ahead(self.playhead.transport, given.song.frames, extent, most);
+        tail_ahead(self.fade.tail, given.clip.frames, first)
     }
 
     /// So many frames at once, in which nothing is decided anew, over the sums that stand there. No frames: nothing.
-    fn run(
-        self,
-        settings: Settings,
-        pool: &[f32],
-        song: Clip,
-        clip: Clip,
-        out: &mut [f32],
-        n: usize,
-    ) -> Core
-        requires { CoreReady (length pool.now) song clip self × (0 < n → Calm song clip n self) × (n * 2 ≤ length out.old) }
-        ensures { (result ≡ core_by song.frames clip.frames n self) × (out.new ≡ over (over_adds (is_house settings) pool.now (song_part song self.playhead.transport) clip self.master self.fade.tail) 0 (n * 2) out.old) }
+    fn run(self, given: Given, pool: &[f32], out: &mut [f32], n: usize) -> Core
+        requires { CoreReady (length pool.now) given.song given.clip self × (0 < n → Calm given.song given.clip n self) × (n * 2 ≤ length out.old) }
+        ensures { (result ≡ core_by given.song.frames given.clip.frames n self) × (out.new ≡ over (over_adds (is_house given.settings) pool.now (song_part given.song self.playhead.transport) given.clip self.master self.fade.tail) 0 (n * 2) out.old) }
     {
         if n == 0 {
             return self;
         }
         let t = self.playhead.transport;
-        let part = song_part(song, t);
-        let house = settings.is_house();
-        let made = over_sums(house, pool, part, clip, self.master, self.fade, out, n);
+        let part = song_part(given.song, t);
+        let house = given.settings.is_house();
+        let made = over_sums(
+            house,
+            pool,
+            part,
+            given.clip,
+            self.master,
+            self.fade,
+            out,
+            n,
+        );
         Core {
             playhead: Playhead {
-                transport: transport_by(t, song.frames, n),
+                transport: transport_by(t, given.song.frames, n),
                 ..self.playhead
             },
             master: made.master,
@@ -390,16 +399,20 @@ impl Core {
 
     /// One frame over a sum: a and b, the playhead's step; d: g = master tick, out = song × g, plus the tail's share, plus the
     /// sum, in that order of adding.
-    fn frame(self, settings: Settings, pool: &[f32], song: Clip, clip: Clip, sum: Pair) -> Made
-        requires { CoreReady (length pool.now) song clip self }
-        ensures { result ≡ core_made settings (recording_of pool.now song) (recording_of pool.now clip) self sum }
+    fn frame(self, given: Given, pool: &[f32], sum: Pair) -> Made
+        requires { CoreReady (length pool.now) given.song given.clip self }
+        ensures { result ≡ core_made given.settings (recording_of pool.now given.song) (recording_of pool.now given.clip) self sum }
     {
-        let extent = bank::extent_of(song.kind);
-        let moved = self.playhead.step(settings, song.frames, extent);
-        let pair = stage::played(pool, song, moved);
+        let extent = bank::extent_of(given.song.kind);
+        let moved = self
+            .playhead
+            .step(given.settings, given.song.frames, extent);
+        let pair = stage::played(pool, given.song, moved);
         let ticked = self.master.tick();
         let g = ticked.value;
-        let faded = self.fade.step_of(settings, pool, clip, g, pair.times(g));
+        let faded = self
+            .fade
+            .step_of(given.settings, pool, given.clip, g, pair.times(g));
         Made {
             core: Core {
                 playhead: moved.playhead,
@@ -413,20 +426,12 @@ impl Core {
 
     /// Some frames over the sums that stand there: those in which nothing is decided anew at once, and after them one by the
     /// rules.
-    fn go_on(
-        self,
-        settings: Settings,
-        pool: &[f32],
-        song: Clip,
-        clip: Clip,
-        out: &mut [f32],
-        most: usize,
-    ) -> Gone
-        requires { CoreReady (length pool.now) song clip self × (0 < most) × (most * 2 ≤ length out.old) }
-        ensures { (0 < result.frames) × (result.frames ≤ most) × (result.core ≡ core_after settings (recording_of pool.now song) (recording_of pool.now clip) result.frames self) × (out.new ≡ over (core_adds settings (recording_of pool.now song) (recording_of pool.now clip) self) 0 (result.frames * 2) out.old) × (result.passes ≡ passes_in settings (recording_of pool.now song) (recording_of pool.now clip) result.frames self) }
+    fn go_on(self, given: Given, pool: &[f32], out: &mut [f32], most: usize) -> Gone
+        requires { CoreReady (length pool.now) given.song given.clip self × (0 < most) × (most * 2 ≤ length out.old) }
+        ensures { (0 < result.frames) × (result.frames ≤ most) × (result.core ≡ core_after given.settings (recording_of pool.now given.song) (recording_of pool.now given.clip) result.frames self) × (out.new ≡ over (core_adds given.settings (recording_of pool.now given.song) (recording_of pool.now given.clip) self) 0 (result.frames * 2) out.old) × (result.passes ≡ passes_in given.settings (recording_of pool.now given.song) (recording_of pool.now given.clip) result.frames self) }
     {
-        let ahead = self.ahead(song, clip, most);
-        let core = self.run(settings, pool, song, clip, &mut out[..], ahead);
+        let ahead = self.ahead(given, most);
+        let core = self.run(given, pool, &mut out[..], ahead);
         if ahead == most {
             return Gone {
                 core,
@@ -440,7 +445,7 @@ impl Core {
             left: out[left],
             right: out[right],
         };
-        let made = core.frame(settings, pool, song, clip, sum);
+        let made = core.frame(given, pool, sum);
         out[left] = made.out.left;
         out[right] = made.out.right;
         Gone {
@@ -452,24 +457,16 @@ impl Core {
 }
 
 /// So many frames of song, master and tail, over the sums that stand there.
-fn over_frames(
-    core: Core,
-    settings: Settings,
-    pool: &[f32],
-    song: Clip,
-    clip: Clip,
-    out: &mut [f32],
-    frames: usize,
-) -> Gone
-    requires { CoreReady (length pool.now) song clip core × (frames * 2 ≤ length out.old) }
-    ensures { (result ≡ record { core = core_after settings (recording_of pool.now song) (recording_of pool.now clip) frames core; frames = frames; passes = passes_in settings (recording_of pool.now song) (recording_of pool.now clip) frames core }) × (out.new ≡ over (core_adds settings (recording_of pool.now song) (recording_of pool.now clip) core) 0 (frames * 2) out.old) }
+fn over_frames(core: Core, given: Given, pool: &[f32], out: &mut [f32], frames: usize) -> Gone
+    requires { CoreReady (length pool.now) given.song given.clip core × (frames * 2 ≤ length out.old) }
+    ensures { (result ≡ record { core = core_after given.settings (recording_of pool.now given.song) (recording_of pool.now given.clip) frames core; frames = frames; passes = passes_in given.settings (recording_of pool.now given.song) (recording_of pool.now given.clip) frames core }) × (out.new ≡ over (core_adds given.settings (recording_of pool.now given.song) (recording_of pool.now given.clip) core) 0 (frames * 2) out.old) }
 {
     let mut core = core;
     let mut passes: u64 = 0;
     let mut done: usize = 0;
     while done < frames {
         let at = done * 2;
-        let gone = core.go_on(settings, pool, song, clip, &mut out[at..], frames - done);
+        let gone = core.go_on(given, pool, &mut out[at..], frames - done);
         core = gone.core;
         passes += gone.passes;
         done += gone.frames;
@@ -513,8 +510,11 @@ pub fn frames_on(
     let handle = stage.playhead.song;
     let sound = stage.sound;
     let voices = sound.voices;
-    let song = bank.clips[handle.slot as usize];
-    let clip = bank.clips[tail_slot(sound.fade.tail, handle) as usize];
+    let given = Given {
+        settings,
+        song: bank.clips[handle.slot as usize],
+        clip: bank.clips[tail_slot(sound.fade.tail, handle) as usize],
+    };
     let core = Core {
         playhead: stage.playhead,
         master: sound.master,
@@ -522,7 +522,7 @@ pub fn frames_on(
     };
     if voices.count == 0 {
         sweeps::clear(&mut out[..], most * 2);
-        let gone = over_frames(core, settings, pool, song, clip, out, most);
+        let gone = over_frames(core, given, pool, out, most);
         let next = gone.core;
         return Further {
             stage: Stage {
@@ -551,7 +551,7 @@ pub fn frames_on(
         };
     }
     let voices = mix_on(voices, pool, bank, &mut out[..], ahead);
-    let gone = over_frames(core, settings, pool, song, clip, out, ahead);
+    let gone = over_frames(core, given, pool, out, ahead);
     let next = gone.core;
     Further {
         stage: Stage {

@@ -16,7 +16,7 @@ pub overflow_add-passes : goal.overflow_add-passes
 overflow_add-passes c =
     let g = c.go_on-gone.ensures in
     let v = c.loop-done.invariant in
-    omega (arith, onward_few _ _ _ _ _ _ _ v _ (omega (arith, g.1, v)) _ g.4, c.well_formed.1.1.1.1.1.0)
+    omega (arith, onward_few _ _ _ _ _ _ _ v _ (omega (arith, g.1, v)) _ g.4, c.well_formed)
 
 pub loop-done-preserved : goal.loop-done-preserved
 loop-done-preserved c =

@@ -16,4 +16,4 @@ parts h {t} {u} {g} {m} {f} {e} a b c = rw (a, b) (ap (λ x. record { playhead =
 pub returns-then-n-eq0 : goal.returns-then-n-eq0
 unfolding over
 returns-then-n-eq0 c =
-    rw c.if-n-eq0.true (sym (core_none c.args.song.frames c.args.clip.frames c.args.self), refl)
+    rw c.if-n-eq0.true (sym (core_none c.args.given.song.frames c.args.given.clip.frames c.args.self), refl)
