@@ -4,11 +4,5 @@ use borrow.Author.Rules.{rules}
 use Rattle.bank.proofs.Clauses.{live_has}
 use Rattle.bank.proofs.find.Goals as goal
 
-pub returns-then-not-is_live : goal.returns-then-not-is_live
-returns-then-not-is_live c = simp (← c.is_live.ensures, c.if-not-is_live.true)
-
 pub clip_of-requires : goal.clip_of-requires
 clip_of-requires c = (live_has _ _ (sym c.is_live.ensures ∙ c.if-not-is_live.false)).among
-
-pub returns : goal.returns
-returns c = simp (← c.is_live.ensures, c.if-not-is_live.false, c.clip_of.ensures)

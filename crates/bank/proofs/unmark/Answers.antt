@@ -6,6 +6,3 @@ use Rattle.bank.proofs.unmark.Goals as goal
 
 pub overflow_sub-result : goal.overflow_sub-result
 overflow_sub-result c = omega (arith, bit_le c.args.used c.args.slot (used_bit c.args.used c.args.slot c.requires.1))
-
-pub returns : goal.returns
-returns c = omega (arith, bit_le c.args.used c.args.slot (used_bit c.args.used c.args.slot c.requires.1), c.ranges.used.fits)
