@@ -10,15 +10,6 @@ pub returns-in-8 : goal.returns-in-8
 unfolding readable read_of
 returns-in-8 c = rw (c.in-8.is, sym c.finite_word.ensures) refl
 
-pub row_gain_ok-requires : goal.row_gain_ok-requires
-row_gain_ok-requires c = sym c.readable.ensures ∙ c.if-readable.true
-
-pub returns-then-readable : goal.returns-then-readable
-returns-then-readable c = rw (sym c.readable.ensures ∙ c.if-readable.true) c.row_gain_ok.ensures
-
-pub returns-else-readable : goal.returns-else-readable
-returns-else-readable c = rw (sym c.readable.ensures ∙ c.if-readable.false) c.if-readable.false
-
 pub returns-in_default : goal.returns-in_default
 unfolding readable
 returns-in_default c = simp (no_gain c.args.x (ne_eqb _ _ c.in_default.in_default-own.rest.0.1) (ne_eqb _ _ c.in_default.in_default-own.rest.1), ne_eqb _ _ c.in_default.in_default-own.rest.1, ne_eqb _ _ c.in_default.in_default-own.rest.0.1) (sym (and-true _ ∙ and-true _))
