@@ -1,5 +1,4 @@
 -- `bank::apart` meets its contract. Assumes nothing.
-use borrow.Author.Rules.{rules}
 use Rattle.bank.specs.Room.{apart}
 use Rattle.bank.proofs.apart.Goals as goal
 

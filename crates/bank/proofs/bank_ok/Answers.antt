@@ -1,6 +1,6 @@
 -- `bank::bank_ok` meets its contract: what is asked of a slot held at every slot passed, and of each lower one beside it. Assumes nothing.
-use Rattle.std.proofs.Common.{◌≡◌, ℕ, ◌<◌, List, length, get_or, sym, ◌∙◌, arith}
-use borrow.Author.Count.{below_none, below_more}
+use Rattle.std.proofs.Common.{◌≡◌, ℕ, ◌<◌, length, get_or, sym, ◌∙◌, arith}
+use borrow.Author.Count.{below_more}
 use Rattle.counts.proofs.Below.{all_true, all_false}
 use Rattle.bank.specs.declared.Bank.{Bank}
 use Rattle.bank.specs.declared.Clip.{Clip}

@@ -1,5 +1,4 @@
 -- `bank::clip_ok` meets its contract. Assumes nothing.
-use borrow.Author.Rules.{rules}
 use Rattle.bank.specs.WellFormed.{clip_ok}
 use Rattle.bank.proofs.clip_ok.Goals as goal
 

@@ -1,6 +1,5 @@
 -- `bank::find` meets its contract. Assumes nothing.
 use mathlib.Core.Path.{sym, ◌∙◌}
-use borrow.Author.Rules.{rules}
 use Rattle.bank.proofs.Clauses.{live_has}
 use Rattle.bank.proofs.find.Goals as goal
 

@@ -1,7 +1,7 @@
 -- `bank::first_fit` meets its contract: the lowest start of the slots passed. Assumes nothing.
-use Rattle.std.proofs.Common.{◌≡◌, ◌≤◌, ap, ◌∙◌, arith}
+use Rattle.std.proofs.Common.{◌≡◌, ap, ◌∙◌, arith}
 use native.Mathlib.Numerals.{add-one}
-use Rattle.bank.specs.Room.{nowhere, start_at}
+use Rattle.bank.specs.Room.{start_at}
 use Rattle.bank.proofs.Candidates.{first_fit_by_ends, start_front, start_lower}
 use Rattle.bank.proofs.first_fit.Goals as goal
 

@@ -1,5 +1,4 @@
 -- `bank::fits` meets its contract. Assumes nothing.
-use borrow.Author.Rules.{rules}
 use Rattle.bank.specs.Room.{fits}
 use Rattle.bank.proofs.fits.Goals as goal
 

@@ -1,5 +1,4 @@
 -- `bank::is_live` meets its contract. Assumes nothing.
-use borrow.Author.Rules.{rules}
 use borrow.Author.Tests.{lt-ltb, le-ltb}
 use Rattle.bank.specs.Slots.{live}
 use Rattle.bank.proofs.is_live.Goals as goal

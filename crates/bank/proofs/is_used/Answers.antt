@@ -1,6 +1,5 @@
 -- `bank::is_used` meets its contract. Assumes nothing.
 use mathlib.Core.Path.{refl}
-use borrow.Author.Rules.{rules}
 use Rattle.bank.specs.Slots.{used_at}
 use Rattle.bank.proofs.is_used.Goals as goal
 

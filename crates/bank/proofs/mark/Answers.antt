@@ -1,6 +1,5 @@
 -- `bank::mark` meets its contract. Assumes nothing.
 use native.Mathlib.Omega.{arith}
-use borrow.Author.Rules.{rules}
 use Rattle.bank.proofs.Slots.{mark_fits, unused}
 use Rattle.bank.proofs.mark.Goals as goal
 

@@ -1,5 +1,4 @@
 -- `bank::pair_ok` meets its contract. Assumes nothing.
-use borrow.Author.Rules.{rules}
 use Rattle.bank.specs.WellFormed.{pair_ok}
 use Rattle.bank.proofs.pair_ok.Goals as goal
 

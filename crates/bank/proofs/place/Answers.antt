@@ -1,5 +1,4 @@
 -- `bank::place` meets its contract. Assumes nothing.
-use borrow.Author.Rules.{rules}
 use Rattle.bank.specs.Slots.{loaded_in}
 use Rattle.bank.proofs.place.Goals as goal
 

@@ -1,5 +1,4 @@
 -- `bank::sample_ok` meets its contract. Assumes nothing.
-use borrow.Author.Rules.{rules}
 use lib.Ieee.{of_bits, neg}
 use Rattle.bank.specs.Sample.{sample_ok}
 use Rattle.bank.proofs.sample_ok.Goals as goal

@@ -3,7 +3,6 @@ use mathlib.Core.Path.{◌≡◌, refl, sym}
 use mathlib.Core.Bool.{true, false, ◌&&◌}
 use lib.Dec.{eqb}
 use borrow.Author.Tests.{le-ltb}
-use borrow.Author.Rules.{rules}
 use Rattle.bank.specs.Slots.{used_at, live, stands_for}
 use Rattle.bank.proofs.Clauses.{stands_clip}
 use Rattle.bank.proofs.stands_by.Goals as goal

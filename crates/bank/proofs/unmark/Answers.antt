@@ -1,6 +1,5 @@
 -- `bank::unmark` meets its contract. Assumes nothing.
 use native.Mathlib.Omega.{arith}
-use borrow.Author.Rules.{rules}
 use Rattle.bank.proofs.Slots.{bit_le, used_bit}
 use Rattle.bank.proofs.unmark.Goals as goal
 

@@ -1,5 +1,5 @@
 -- `row_gain_ok` meets its contract: a readable Gain or Stinger is tested, any other row has no gain.
-use mathlib.Core.Path.{refl, sym, ◌∙◌}
+use mathlib.Core.Path.{sym, ◌∙◌}
 use borrow.Author.Tests.{ne_eqb, ltb-true}
 use Rattle.timeline.specs.Record.{readable, read_of}
 use Rattle.timeline.proofs.Gains.{no_gain}
