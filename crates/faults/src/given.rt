@@ -1,6 +1,7 @@
 //! What the cases are given: handles, and lists of 32 of them.
-use print::text;
-use std::io;
+ghost use Rattle.std.specs.Prelude.{◌<◌};
+
+use std::{fmt, io};
 
 /// Slot 3, serial 7.
 pub const THREE: u64 = 0x3_0000_0007;
@@ -23,27 +24,44 @@ pub fn listed() -> [u64; 32] {
     clips
 }
 
-/// One word at a place and one at another, both below 32.
-pub fn pair(i: usize, x: u64, j: usize, y: u64) -> [u64; 32] {
+/// A handle at its place in a list.
+#[derive(Clone, Copy)]
+pub struct Entry {
+    place: usize,
+    handle: u64,
+    ghost inside: { place < 32 },
+}
+
+impl fmt::Display for Entry {
+    fn fmt<W: fmt::Write>(&self, f: &mut fmt::Formatter<W>) -> fmt::Result {
+        let slot = self.handle / 0x1_0000_0000;
+        let serial = self.handle % 0x1_0000_0000;
+        let place = self.place;
+        write!(f, "slot {slot} serial {serial} at {place}")
+    }
+}
+
+/// A handle at a place.
+pub fn at(place: usize, handle: u64) -> Entry
+    requires { place < 32 }
+{
+    Entry { place, handle }
+}
+
+/// The list of two handles.
+pub fn pair(one: Entry, other: Entry) -> [u64; 32] {
     let mut clips = [0; 32];
-    if i >= 32 {
-        return clips;
-    }
-    if j >= 32 {
-        return clips;
-    }
-    clips[i] = x;
-    clips[j] = y;
+    clips[one.place] = one.handle;
+    clips[other.place] = other.handle;
     clips
 }
 
 /// What the words of the cases stand for.
 pub fn legend(rt: &impl Print) -> io::Result<()> {
-    text(
-        rt,
-        b"a file is told by its fields, a list by its records: version is version 1, Play 5 a Play with number 5\n\
-          handles are listed at 3 (slot 3 serial 7) and at 31 (slot 31 serial 7), everywhere else is serial 0\n\
-          a place is a field's first byte, or a record's in its list, or 0 for a fault of neither\n\
-          in brackets are the faults that meet\n",
+    print!(rt;
+        "a file is told by its fields, a list by its records: version is version 1, Play 5 a Play with number 5\n\
+         handles are listed at 3 (slot 3 serial 7) and at 31 (slot 31 serial 7), everywhere else is serial 0\n\
+         a place is a field's first byte, or a record's in its list, or 0 for a fault of neither\n\
+         in brackets are the faults that meet\n"
     )
 }

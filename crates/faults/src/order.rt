@@ -1,13 +1,13 @@
 //! The reader where two faults stand in one file: 'by lowest first byte of a faulty field, then this order'.
-use crate::table::{Task, table};
+use crate::reader::read;
+use crate::table::table;
 use std::io;
 
 /// The lower place wins, also over a fault that comes earlier in the order.
 fn places(rt: &impl Print) -> io::Result<()> {
     table(
         rt,
-        Task::Read,
-        b"the reader, two faults in one file, the lower place wins\n\
+        "the reader, two faults in one file, the lower place wins\n\
           tag 9 of 2 bytes, count 0 without its last byte (103 at 0, 102 at 5): 0902000100 03020000\n\
           version of 3 bytes, tag 9 of 0 bytes, count 0 (105 at 0, 104 at 6): 010300010000 090000 0302000000\n\
           version 2, Play 5 of 18 bytes, count 1 (106 at 0, 105 at 5): 0102000200 021200z05y0100 0302000100\n\
@@ -20,6 +20,7 @@ fn places(rt: &impl Print) -> io::Result<()> {
               0102000100 021100z05y01 021100z05y01 021200z06y0902 0302000300\n\
           version, Play 5, Play 5, count 2 without its last byte (109 at 25, 102 at 45): \
               0102000100 021100z05y01 021100z05y01 03020002\n",
+        |given| read(rt, given),
     )
 }
 
@@ -28,8 +29,7 @@ fn places(rt: &impl Print) -> io::Result<()> {
 fn one_field(rt: &impl Print) -> io::Result<()> {
     table(
         rt,
-        Task::Read,
-        b"the reader, two faults in one field, the earlier in the order wins\n\
+        "the reader, two faults in one field, the earlier in the order wins\n\
           tag 9 of 2 bytes without the last (102, 103): 09020001\n\
           version, tag 9 of 2 bytes without the last (102, 104): 0102000100 09020001\n\
           version of 258 bytes, of which 7 are there (102, 105): 0102010100 0302000000\n\
@@ -53,6 +53,7 @@ fn one_field(rt: &impl Print) -> io::Result<()> {
           version, Play 5, kind 11 with number 5, count 2 (107, 109): 0102000100 021100z05y01 021100z05y0b 0302000200\n\
           version, Play 5, Swap 5 to clip 2, count 2 (108, 109): 0102000100 021100z05y01 021200z05y0902 0302000200\n\
           version, count 1, a byte (111, 112): 0102000100 0302000100 00\n",
+        |given| read(rt, given),
     )
 }
 

@@ -1,79 +1,57 @@
 //! The reader: each fault once, on which side of its bounds a field is, and the two faults that are of no field.
-use crate::given::{LAST, LATER, NONE, THREE, listed, pair};
-use crate::table::{Task, file_of, table};
-use crate::told::{case, handle, read_answer};
-use print::{number, text};
-use std::io;
-use tourfile::TourError;
+ghost use Rattle.std.specs.Prelude.{◌≤◌};
 
-/// Reads the first n bytes of a store, which has as many.
-pub fn read_first(file: &[u8], n: usize, list: &mut [u64]) -> Result<usize, TourError> {
+use crate::given::{Entry, LAST, LATER, NONE, THREE, at, listed, pair};
+use crate::table::{File, table};
+use crate::told::{Answer, case};
+use std::io;
+
+/// A version and a count of no commands.
+const EMPTY: &[u8; 10] = b"\x01\x02\0\x01\0\
+                           \x03\x02\0\0\0";
+
+/// A version, a Play 5 and a Play 6, and their count.
+const TWO: &[u8; 50] = b"\x01\x02\0\x01\0\
+                         \x02\x11\0\0\0\0\0\0\0\0\0\x05\0\0\0\0\0\0\0\x01\
+                         \x02\x11\0\0\0\0\0\0\0\0\0\x06\0\0\0\0\0\0\0\x01\
+                         \x03\x02\0\x02\0";
+
+/// Reads a file where the handles of the cases are listed.
+pub fn read_listed(file: &[u8], list: &mut [u64]) -> Answer {
     let clips = listed();
-    if n > file.len() {
-        return tourfile::read_tour(&clips, file, list);
-    }
-    tourfile::read_tour(&clips, &file[0..n], list)
+    Answer::read(tourfile::read_tour(&clips, file, list))
 }
 
 /// Reads a file into a list for four records.
-pub fn read(rt: &impl Print, hex: &[u8]) -> io::Result<()> {
-    let mut file = [0; 300];
+pub fn read(rt: &impl Print, hex: &str) -> io::Result<()> {
     let mut list = [0; 20];
-    let n = file_of(hex, &mut file);
-    read_answer(rt, read_first(&file, n, &mut list))
+    let answer = read_listed(File::of(hex).bytes(), &mut list);
+    print!(rt; "{answer}")
 }
 
 /// Reads the file of no commands with two handles.
-fn two_listed(rt: &impl Print, i: usize, x: u64, j: usize, y: u64) -> io::Result<()> {
-    let clips = pair(i, x, j, y);
+fn two_listed(rt: &impl Print, one: Entry, other: Entry) -> io::Result<()> {
+    let clips = pair(one, other);
     let mut list = [0; 0];
-    text(rt, b"  version, count 0, ")?;
-    handle(rt, i, x)?;
-    text(rt, b", ")?;
-    handle(rt, j, y)?;
-    text(rt, b": ")?;
-    read_answer(
-        rt,
-        tourfile::read_tour(
-            &clips,
-            b"\x01\x02\0\x01\0\
-          \x03\x02\0\0\0",
-            &mut list,
-        ),
-    )?;
-    text(rt, b"\n")
+    let answer = Answer::read(tourfile::read_tour(&clips, EMPTY, &mut list));
+    println!(rt; "  version, count 0, {one}, {other}: {answer}")
 }
 
-/// Reads the file of two Plays into the first n words of a list, which has as many.
-fn read_two(list: &mut [u64], n: usize) -> Result<usize, TourError> {
-    let clips = listed();
-    let file = b"\x01\x02\0\x01\0\
-                 \x02\x11\0\0\0\0\0\0\0\0\0\x05\0\0\0\0\0\0\0\x01\
-                 \x02\x11\0\0\0\0\0\0\0\0\0\x06\0\0\0\0\0\0\0\x01\
-                 \x03\x02\0\x02\0";
-    if n > list.len() {
-        return tourfile::read_tour(&clips, file, list);
-    }
-    tourfile::read_tour(&clips, file, &mut list[0..n])
-}
-
-/// Reads it into a list of so many words.
-fn room(rt: &impl Print, n: usize) -> io::Result<()> {
+/// Reads the file of two Plays into a list of so many words.
+fn room(rt: &impl Print, n: usize) -> io::Result<()>
+    requires { n ≤ 14 }
+{
     let mut list = [0; 14];
-    text(rt, b"  version, Play 5, Play 6, count 2, into a list of ")?;
-    number(rt, n as u64)?;
-    text(rt, b" words: ")?;
-    read_answer(rt, read_two(&mut list, n))?;
-    text(rt, b"\n")
+    let answer = read_listed(TWO, &mut list[..n]);
+    println!(rt; "  version, Play 5, Play 6, count 2, into a list of {n} words: {answer}")
 }
 
 fn each(rt: &impl Print) -> io::Result<()> {
-    text(rt, b"the reader, each fault once\n")?;
-    two_listed(rt, 3, THREE, 31, THREE)?;
+    println!(rt; "the reader, each fault once")?;
+    two_listed(rt, at(3, THREE), at(31, THREE))?;
     table(
         rt,
-        Task::Read,
-        b"version: 0102000100\n\
+        "version: 0102000100\n\
           tag 9 of 2 bytes, count 0: 0902000100 0302000000\n\
           version, tag 9 of 2 bytes, count 0: 0102000100 0902000100 0302000000\n\
           version, Play 5 of 18 bytes, count 1: 0102000100 021200z05y0100 0302000100\n\
@@ -81,13 +59,14 @@ fn each(rt: &impl Print) -> io::Result<()> {
           version, kind 11, count 1: 0102000100 021100z05y0b 0302000100\n\
           version, Swap 5 to clip 2, count 1: 0102000100 021200z05y0902 0302000100\n\
           version, Play 5, Play 5, count 2: 0102000100 021100z05y01 021100z05y01 0302000200\n",
+        |given| read(rt, given),
     )?;
     crate::many::one_too_many(rt)?;
     table(
         rt,
-        Task::Read,
-        b"version, count 1: 0102000100 0302000100\n\
+        "version, count 1: 0102000100 0302000100\n\
           version, count 0, a byte: 0102000100 0302000000 00\n",
+        |given| read(rt, given),
     )?;
     room(rt, 9)
 }
@@ -96,8 +75,7 @@ fn each(rt: &impl Print) -> io::Result<()> {
 fn ends(rt: &impl Print) -> io::Result<()> {
     table(
         rt,
-        Task::Read,
-        b"the reader, where a file ends\n\
+        "the reader, where a file ends\n\
           an empty file:\n\
           the byte 9: 09\n\
           version up to its length's first byte: 0102\n\
@@ -111,6 +89,7 @@ fn ends(rt: &impl Print) -> io::Result<()> {
           version, Play 5, count 1: 0102000100 021100z05y01 0302000100\n\
           version, tag 128 of 0 bytes: 0102000100 800000\n\
           version, tag 128 of 256 bytes, which count 0 does not fill: 0102000100 800001 0302000000\n",
+        |given| read(rt, given),
     )
 }
 
@@ -119,8 +98,7 @@ fn ends(rt: &impl Print) -> io::Result<()> {
 fn tags(rt: &impl Print) -> io::Result<()> {
     table(
         rt,
-        Task::Read,
-        b"the reader, first tags\n\
+        "the reader, first tags\n\
           tag 9 of 0 bytes: 090000\n\
           tag 128 of 0 bytes: 800000\n\
           count 0: 0302000000\n\
@@ -152,6 +130,7 @@ fn tags(rt: &impl Print) -> io::Result<()> {
           version, count 0, count 0: 0102000100 0302000000 0302000000\n\
           version, Play 5, count 1, Play 6, count 2: 0102000100 021100z05y01 0302000100 021100z06y01 0302000200\n\
           version, count 1, Play 5, count 1 (111, 112): 0102000100 0302000100 021100z05y01 0302000100\n",
+        |given| read(rt, given),
     )
 }
 
@@ -160,8 +139,7 @@ fn tags(rt: &impl Print) -> io::Result<()> {
 fn commands(rt: &impl Print) -> io::Result<()> {
     table(
         rt,
-        Task::Read,
-        b"the reader, lengths\n\
+        "the reader, lengths\n\
           version of 1 byte, count 0: 01010001 0302000000\n\
           version of 3 bytes: 010300010000\n\
           version, count 0 of 1 byte: 0102000100 03010000\n\
@@ -196,23 +174,24 @@ fn commands(rt: &impl Print) -> io::Result<()> {
           version, Play 2^64 - 1, Play 0, count 2: 0102000100 021100zffffffffffffffff01 021100zz01 0302000200\n\
           version, Play 5, Play 9, Play 7, count 3: 0102000100 021100z05y01 021100z09y01 021100z07y01 0302000300\n\
           version, Play 5, tag 128 of 0 bytes, Play 5, count 2: 0102000100 021100z05y01 800000 021100z05y01 0302000200\n",
+        |given| read(rt, given),
     )
 }
 
 /// 'Both sides first: a handle listed twice.' Slot and serial are the handle, and serial 0 is none.
 fn twice(rt: &impl Print) -> io::Result<()> {
-    text(rt, b"the reader, a handle listed twice\n")?;
-    two_listed(rt, 0, THREE, 1, THREE)?;
-    two_listed(rt, 0, THREE, 31, THREE)?;
-    two_listed(rt, 30, THREE, 31, THREE)?;
-    two_listed(rt, 0, THREE, 31, LATER)?;
-    two_listed(rt, 0, THREE, 31, LAST)?;
-    two_listed(rt, 0, NONE, 31, NONE)
+    println!(rt; "the reader, a handle listed twice")?;
+    two_listed(rt, at(0, THREE), at(1, THREE))?;
+    two_listed(rt, at(0, THREE), at(31, THREE))?;
+    two_listed(rt, at(30, THREE), at(31, THREE))?;
+    two_listed(rt, at(0, THREE), at(31, LATER))?;
+    two_listed(rt, at(0, THREE), at(31, LAST))?;
+    two_listed(rt, at(0, NONE), at(31, NONE))
 }
 
 /// 'Last, the list for records too short.' Five words are a record, and a remainder is not looked at.
 fn rooms(rt: &impl Print) -> io::Result<()> {
-    text(rt, b"the reader, lists\n")?;
+    println!(rt; "the reader, lists")?;
     room(rt, 0)?;
     room(rt, 9)?;
     room(rt, 10)?;
@@ -220,29 +199,28 @@ fn rooms(rt: &impl Print) -> io::Result<()> {
 }
 
 /// Reads a file into a list of no words.
-fn read_none(rt: &impl Print, what: &[u8], clips: &[u64; 32], file: &[u8]) -> io::Result<()> {
+fn read_none(rt: &impl Print, what: &str, clips: &[u64; 32], file: &[u8]) -> io::Result<()> {
     let mut list = [0; 0];
-    case(rt, what)?;
-    read_answer(rt, tourfile::read_tour(clips, file, &mut list))?;
-    text(rt, b"\n")
+    case(
+        rt,
+        what,
+        Answer::read(tourfile::read_tour(clips, file, &mut list)),
+    )
 }
 
 fn first_and_last(rt: &impl Print) -> io::Result<()> {
-    text(
-        rt,
-        b"the reader, a handle listed twice before all else, the list for records last\n",
-    )?;
+    println!(rt; "the reader, a handle listed twice before all else, the list for records last")?;
     let clips = listed();
-    let twice = pair(3, THREE, 31, THREE);
+    let twice = pair(at(3, THREE), at(31, THREE));
     read_none(
         rt,
-        b"an empty file, a handle listed twice (101, 102)",
+        "an empty file, a handle listed twice (101, 102)",
         &twice,
         b"",
     )?;
     read_none(
         rt,
-        b"version, Play 5, count 1, a handle listed twice, no list (101, 113)",
+        "version, Play 5, count 1, a handle listed twice, no list (101, 113)",
         &twice,
         b"\x01\x02\0\x01\0\
           \x02\x11\0\0\0\0\0\0\0\0\0\x05\0\0\0\0\0\0\0\x01\
@@ -250,20 +228,14 @@ fn first_and_last(rt: &impl Print) -> io::Result<()> {
     )?;
     read_none(
         rt,
-        b"version, Play 5, count 1, a byte, no list (112, 113)",
+        "version, Play 5, count 1, a byte, no list (112, 113)",
         &clips,
         b"\x01\x02\0\x01\0\
           \x02\x11\0\0\0\0\0\0\0\0\0\x05\0\0\0\0\0\0\0\x01\
           \x03\x02\0\x01\0\
           \0",
     )?;
-    read_none(
-        rt,
-        b"version, count 0, no list",
-        &clips,
-        b"\x01\x02\0\x01\0\
-          \x03\x02\0\0\0",
-    )
+    read_none(rt, "version, count 0, no list", &clips, EMPTY)
 }
 
 pub fn all(rt: &impl Print) -> io::Result<()> {
