@@ -234,7 +234,7 @@ fn two_frames(rt: &impl Print, pool: &[f32]) -> io::Result<()> {
     text(rt, b"a song of two frames, Play at 0, a block of 4\n  ")?;
     run_told(rt, s, &queue, pool, &mut out)?;
     text(rt, b" ")?;
-    samples(rt, &out, 0, 8)?;
+    samples(rt, &out)?;
     text(rt, b"\n")
 }
 
@@ -246,7 +246,7 @@ fn gain_zero(rt: &impl Print, pool: &[f32]) -> io::Result<()> {
     let mut out = [0.0; 2];
     text(rt, b"Gain 0 at rest, 0.5 sounds as\n ")?;
     run(s, &queue, pool, &mut out);
-    samples(rt, &out, 0, 2)?;
+    samples(rt, &out[..2])?;
     text(rt, b"\n")
 }
 
@@ -262,7 +262,7 @@ fn loop_wraps(rt: &impl Print, pool: &[f32]) -> io::Result<()> {
     text(rt, b"loop 2..4 from 0, a block of 7\n  ")?;
     run_told(rt, s, &queue, pool, &mut out)?;
     text(rt, b" ")?;
-    samples(rt, &out, 0, 14)?;
+    samples(rt, &out)?;
     text(rt, b"\n")
 }
 
@@ -278,9 +278,9 @@ fn swap_tail(rt: &impl Print, pool: &[f32]) -> io::Result<()> {
     )?;
     run_told(rt, s, &queue, pool, &mut out)?;
     text(rt, b" ")?;
-    samples(rt, &out, 0, 2)?;
+    samples(rt, &out[..2])?;
     text(rt, b"\n ")?;
-    samples(rt, &out, 2044, 2050)?;
+    samples(rt, &out[2044..])?;
     text(rt, b"\n")
 }
 
@@ -307,7 +307,7 @@ fn one_frame(rt: &impl Print, s: Session, pool: &[f32]) -> io::Result<Session> {
     let mut out = [0.0; 2];
     let next = run(s, &queue, pool, &mut out).session;
     text(rt, b" ")?;
-    samples(rt, &out, 0, 1)?;
+    samples(rt, &out[..1])?;
     let stage = next.stage;
     text(rt, b" ")?;
     number(rt, stage.sound.voices.count as u64)?;

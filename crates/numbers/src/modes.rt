@@ -95,9 +95,9 @@ fn swap_down(mode: u32, out: &mut [f32; 6]) {
 
 /// The left samples of 3 frames.
 fn left(rt: &impl Print, out: &[f32; 6]) -> io::Result<()> {
-    samples(rt, out, 0, 1)?;
-    samples(rt, out, 2, 3)?;
-    samples(rt, out, 4, 5)?;
+    samples(rt, &out[0..1])?;
+    samples(rt, &out[2..3])?;
+    samples(rt, &out[4..5])?;
     text(rt, b"\n")
 }
 

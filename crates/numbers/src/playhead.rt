@@ -120,7 +120,7 @@ fn short(rt: &impl Print, mode: u32) -> io::Result<()> {
     let song = [0.25; 8];
     let s = playing(mode, &queue, &capture, &mut pool, &song, 10);
     let after = block(s, &queue, &capture, &pool, &mut out);
-    samples(rt, &out, 6, 12)?;
+    samples(rt, &out[6..])?;
     position(rt, after)?;
     text(rt, b"\n")
 }

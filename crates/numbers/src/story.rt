@@ -112,7 +112,7 @@ fn until_played(rt: &impl Print, s: Session, pool: &[f32; 16], b: Handle) -> io:
     text(rt, b"  a block of 6: ")?;
     let playing = block(rt, held, &queue, &capture, pool, &mut six)?;
     text(rt, b"   ")?;
-    samples(rt, &six, 0, 12)?;
+    samples(rt, &six)?;
     text(rt, b"\n  retire B, which plays: ")?;
     let session = retire(rt, playing, &queue, &capture, b)?;
     Ok(Kept {
@@ -173,7 +173,7 @@ fn again(rt: &impl Print, k: Kept, lent: [f32; 16], b: Handle) -> io::Result<()>
     text(rt, b"  a block of 4: ")?;
     let last = block(rt, queued, &queue, &capture, &pool, &mut four)?;
     text(rt, b"   ")?;
-    samples(rt, &four, 0, 8)?;
+    samples(rt, &four)?;
     text(rt, b"\n  C is ")?;
     live(rt, last, c)?;
     text(rt, b"  B is ")?;

@@ -4,7 +4,7 @@
 use control::{PerformanceMetrics, PerformanceSnapshot};
 use counts::Handle;
 use session::Refusal;
-use std::io;
+use std::{fmt, io};
 use submission::Report;
 use transport::TransportState;
 
@@ -26,155 +26,117 @@ pub fn column(rt: &impl Print, n: u64, places: usize) -> io::Result<()> {
 
 /// The bits of a number; every NaN has the same.
 pub fn bits(x: f32) -> u64 {
-    if x != x {
+    if x.is_nan() {
         return 2143289344;
     }
-    f32::to_bits(x) as u64
+    u64::from(x.to_bits())
 }
 
-/// The whole part of a number's magnitude, read off its bits; 0 from 2^29 on.
+/// The whole part of a number's magnitude; 0 from 2^29 on.
 pub fn whole(x: f32) -> u64 {
-    let magnitude = bits(x) % 2147483648;
-    let exponent = magnitude / 8388608;
-    if exponent < 127 {
-        return 0;
+    let magnitude = x.abs();
+    if magnitude < 536870912.0 {
+        return std::num::saturating_f32_to_u64(magnitude);
     }
-    if exponent > 155 {
-        return 0;
-    }
-    let digits = 8388608 + magnitude % 8388608;
-    (digits * 32) >> (155 - exponent)
+    0
 }
 
-/// A sample of magnitude at most 16, in full to the 2^24th; anything else as a word.
-pub fn sample(rt: &impl Print, x: f32) -> io::Result<()> {
-    if !ramp::is_between(-16.0, 16.0, x) {
-        return text(rt, b"loud");
-    }
-    if x < 0.0 {
-        text(rt, b"-")?;
-    }
-    decimal(rt, whole(x * 16777216.0))
-}
+/// A sample, which prints in full to the 2^24th if its magnitude is at most 16, and else as a word.
+#[derive(Clone, Copy)]
+pub struct Sample(pub f32);
 
-/// So many 2^24ths, in full.
-fn decimal(rt: &impl Print, parts: u64) -> io::Result<()> {
-    number(rt, parts / 16777216)?;
-    text(rt, b".")?;
-    let mut rest = parts % 16777216;
-    let mut places: u32 = 24;
-    while places > 0 {
-        let tenfold = rest * 10;
-        number(rt, tenfold / 16777216)?;
-        rest = tenfold % 16777216;
-        if rest == 0 {
-            return Ok(());
+impl fmt::Display for Sample {
+    fn fmt<W: fmt::Write>(&self, f: &mut fmt::Formatter<W>) -> fmt::Result {
+        let x = self.0;
+        if !ramp::is_between(-16.0, 16.0, x) {
+            return write!(f, "loud");
         }
-        places -= 1;
+        if x < 0.0 {
+            write!(f, "-")?;
+        }
+        let parts = whole(x * 16777216.0);
+        write!(f, "{}.", parts / 16777216)?;
+        let mut rest = parts % 16777216;
+        for _ in 0..24 {
+            let tenfold = rest * 10;
+            write!(f, "{}", tenfold / 16777216)?;
+            rest = tenfold % 16777216;
+            if rest == 0 {
+                return Ok(());
+            }
+        }
+        Ok(())
     }
-    Ok(())
 }
 
 pub fn state(rt: &impl Print, s: TransportState) -> io::Result<()> {
-    match s {
-        TransportState::Stopped => text(rt, b"Stopped"),
-        TransportState::Playing => text(rt, b"Playing"),
-        TransportState::Paused => text(rt, b"Paused"),
-    }
-}
-
-pub fn refused(rt: &impl Print, k: Refusal) -> io::Result<()> {
-    text(rt, b"refused ")?;
-    number(rt, k.number() as u64)
+    rt.print(match s {
+        TransportState::Stopped => "Stopped",
+        TransportState::Playing => "Playing",
+        TransportState::Paused => "Paused",
+    })
 }
 
 pub fn handle(rt: &impl Print, h: Handle) -> io::Result<()> {
-    text(rt, b"slot ")?;
-    number(rt, h.slot as u64)?;
-    text(rt, b" serial ")?;
-    number(rt, h.serial as u64)
+    print!(rt; "slot {} serial {}", h.slot, h.serial)
+}
+
+/// What a call gave, told as is asked, or its refusal.
+pub fn answered<T, F: FnOnce(T) -> io::Result<()>>(
+    rt: &impl Print,
+    a: Result<T, Refusal>,
+    told: F,
+) -> io::Result<()>
+    requires { F.IsAlwaysCallable told }
+{
+    match a {
+        Ok(x) => told(x),
+        Err(k) => print!(rt; "refused {}", k.number()),
+    }
 }
 
 pub fn answer(rt: &impl Print, a: Result<(), Refusal>) -> io::Result<()> {
-    match a {
-        Ok(()) => text(rt, b"done"),
-        Err(k) => refused(rt, k),
-    }
+    answered(rt, a, |_| print!(rt; "done"))
 }
 
 pub fn load_answer(rt: &impl Print, a: Result<Handle, Refusal>) -> io::Result<()> {
-    match a {
-        Ok(h) => handle(rt, h),
-        Err(k) => refused(rt, k),
-    }
+    answered(rt, a, |h| handle(rt, h))
 }
 
 pub fn submit_answer(rt: &impl Print, a: Result<u64, Refusal>) -> io::Result<()> {
-    match a {
-        Ok(n) => {
-            text(rt, b"number ")?;
-            number(rt, n)
-        }
-        Err(k) => refused(rt, k),
-    }
+    answered(rt, a, |n| print!(rt; "number {n}"))
 }
 
 pub fn replay_answer(rt: &impl Print, a: Result<Report, Refusal>) -> io::Result<()> {
-    match a {
-        Ok(r) => {
-            text(rt, b"taken ")?;
-            number(rt, r.taken as u64)?;
-            text(rt, b", queue-full ")?;
-            number(rt, r.full as u64)?;
-            text(rt, b", otherwise skipped ")?;
-            number(rt, r.skipped as u64)
-        }
-        Err(k) => refused(rt, k),
-    }
+    answered(rt, a, |r| {
+        print!(rt;
+            "taken {}, queue-full {}, otherwise skipped {}",
+            r.taken, r.full, r.skipped
+        )
+    })
 }
 
 pub fn stop_answer(rt: &impl Print, a: Result<usize, Refusal>) -> io::Result<()> {
-    match a {
-        Ok(n) => {
-            text(rt, b"copied ")?;
-            number(rt, n as u64)
-        }
-        Err(k) => refused(rt, k),
-    }
+    answered(rt, a, |n| print!(rt; "copied {n}"))
 }
 
 pub fn snapshot_answer(rt: &impl Print, a: Result<PerformanceSnapshot, Refusal>) -> io::Result<()> {
-    match a {
-        Ok(x) => {
-            let position = x.position;
-            let at = x.state;
-            text(rt, b"position ")?;
-            number(rt, position.0)?;
-            text(rt, b", ")?;
-            state(rt, at)?;
-            text(rt, b", gain ")?;
-            sample(rt, x.gain)
-        }
-        Err(k) => refused(rt, k),
-    }
+    answered(rt, a, |x| {
+        print!(rt; "position {}, ", x.position.0)?;
+        state(rt, x.state)?;
+        print!(rt; ", gain {}", Sample(x.gain))
+    })
 }
 
 pub fn metrics_answer(rt: &impl Print, a: Result<PerformanceMetrics, Refusal>) -> io::Result<()> {
-    match a {
-        Ok(m) => {
-            text(rt, b"rendered ")?;
-            number(rt, m.rendered)?;
-            text(rt, b", executed ")?;
-            number(rt, m.executed)?;
-            text(rt, b", dropped ")?;
-            number(rt, m.dropped)?;
-            text(rt, b", deepest ")?;
-            number(rt, m.deepest as u64)?;
-            text(rt, b", swaps ")?;
-            number(rt, m.swaps)?;
-            text(rt, b", fired ")?;
-            number(rt, m.fired)
-        }
-        Err(k) => refused(rt, k),
-    }
+    answered(rt, a, |m| {
+        print!(rt;
+            "rendered {}, executed {}, dropped {}",
+            m.rendered, m.executed, m.dropped
+        )?;
+        print!(rt;
+            ", deepest {}, swaps {}, fired {}",
+            m.deepest, m.swaps, m.fired
+        )
+    })
 }

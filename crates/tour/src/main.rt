@@ -6,103 +6,68 @@ mod score;
 mod sheet;
 mod visit;
 
-use print::text;
-use score::Scene;
-use session::Session;
+use score::Cue;
 use stage::{AS_TONO, HOUSE};
 use std::io;
+use visit::Visit;
 
 /// A scene of the tour, cue by cue.
-fn play(
-    rt: &impl Print,
-    s: Session,
-    queue: &mut [u64; 40],
-    capture: &mut [u64; 40],
-    pool: &[f32; 16000],
-    scene: Scene,
-) -> io::Result<Session> {
-    let mut s = s;
-    let mut i: u32 = 0;
-    while i < score::CUES {
-        let cue = score::next(scene, i);
-        sheet::cue(rt, cue)?;
-        s = visit::perform(rt, s, queue, capture, pool, cue)?;
-        i += 1;
+fn play(rt: &impl Print, visit: &mut Visit, scene: &[Cue]) -> io::Result<()> {
+    for cue in scene {
+        rt.print(*cue)?;
+        visit.perform(rt, *cue)?;
     }
-    Ok(s)
+    Ok(())
 }
 
 /// From the hall into the nave, captured.
-fn way_in(
-    rt: &impl Print,
-    queue: &mut [u64; 40],
-    capture: &mut [u64; 40],
-    pool: &mut [f32; 16000],
-    list: &mut [u64; 25],
-) -> io::Result<Session> {
-    let entered = visit::enter(rt, queue, capture, pool)?;
-    let captured = visit::start_capture(rt, entered, queue, capture)?;
-    let hall = play(rt, captured, queue, capture, pool, Scene::Hall)?;
-    let nave = play(rt, hall, queue, capture, pool, Scene::Nave)?;
-    visit::stop_capture(rt, nave, queue, capture, list)
+fn way_in(rt: &impl Print, list: &mut [u64; 25]) -> io::Result<Visit> {
+    let mut visit = Visit::enter(rt)?;
+    visit.start_capture(rt)?;
+    play(rt, &mut visit, &score::ROUND_THE_HALL)?;
+    play(rt, &mut visit, &score::INTO_THE_NAVE)?;
+    visit.stop_capture(rt, list)?;
+    Ok(visit)
 }
 
 /// From the nave out. What is done under the guide's word, the snapshot undoes.
-fn way_out(
-    rt: &impl Print,
-    s: Session,
-    queue: &mut [u64; 40],
-    capture: &mut [u64; 40],
-    pool: &[f32; 16000],
-) -> io::Result<()> {
-    let halt = play(rt, s, queue, capture, pool, Scene::Halt)?;
-    let x = visit::snapshot(rt, halt, queue, capture)?;
-    let word = play(rt, halt, queue, capture, pool, Scene::Word)?;
-    let back = visit::apply(rt, word, queue, capture, x)?;
-    play(rt, back, queue, capture, pool, Scene::Leave)?;
-    Ok(())
+fn way_out(rt: &impl Print, visit: &mut Visit) -> io::Result<()> {
+    play(rt, visit, &score::HALT)?;
+    let x = visit.snapshot(rt)?;
+    play(rt, visit, &score::WORD)?;
+    visit.apply(rt, x)?;
+    play(rt, visit, &score::LEAVE)
 }
 
 /// The whole tour. The list is then what its way in captured.
 fn first_visit(rt: &impl Print, list: &mut [u64; 25]) -> io::Result<()> {
-    let mut queue = [0; 40];
-    let mut capture = [0; 40];
-    let mut pool = [0.0; 16000];
-    let s = way_in(rt, &mut queue, &mut capture, &mut pool, list)?;
-    way_out(rt, s, &mut queue, &mut capture, &pool)
+    let mut visit = way_in(rt, list)?;
+    way_out(rt, &mut visit)
 }
 
 /// What was captured, heard again.
 fn second_visit(rt: &impl Print, list: &[u64; 25]) -> io::Result<()> {
-    let mut queue = [0; 40];
-    let capture = [0; 40];
-    let mut pool = [0.0; 16000];
-    let s = visit::enter(rt, &queue, &capture, &mut pool)?;
-    let t = visit::replay(rt, s, &mut queue, &capture, list)?;
-    visit::blocks(rt, t, &queue, &capture, &pool, 20)?;
-    Ok(())
+    let mut visit = Visit::enter(rt)?;
+    visit.replay(rt, list)?;
+    visit.blocks(rt, 20)
 }
 
 /// A brief one with the music turned down, in a mode.
 fn low_visit(rt: &impl Print, mode: u32) -> io::Result<()> {
-    let mut queue = [0; 40];
-    let mut capture = [0; 40];
-    let mut pool = [0.0; 16000];
     sheet::mode(rt, mode)?;
-    let s = visit::enter_briefly(rt, mode, &queue, &capture, &mut pool)?;
-    play(rt, s, &mut queue, &mut capture, &pool, Scene::Low)?;
-    Ok(())
+    let mut visit = Visit::enter_briefly(rt, mode)?;
+    play(rt, &mut visit, &score::LOW)
 }
 
 fn main(rt: HostRuntime) -> io::Result<()> {
     let mut list = [0; 25];
     sheet::heading(&rt)?;
     first_visit(&rt, &mut list)?;
-    text(&rt, b"\n")?;
+    println!(rt)?;
     second_visit(&rt, &list)?;
-    text(&rt, b"\n")?;
+    println!(rt)?;
     low_visit(&rt, AS_TONO)?;
-    text(&rt, b"\n")?;
+    println!(rt)?;
     low_visit(&rt, HOUSE)?;
-    text(&rt, b"\n")
+    println!(rt)
 }

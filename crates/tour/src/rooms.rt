@@ -5,11 +5,13 @@ ghost use Rattle.std.specs.Prelude.{◌<◌};
 #[derive(Clone, Copy)]
 pub struct Tone {
     /// The saw's period in frames.
-    pub period: u32,
+    pub period: usize,
     /// How many frames a beat takes to fall from full to silence.
-    pub beat: u32,
+    pub beat: usize,
     pub left: f32,
     pub right: f32,
+    ghost goes_round: { 0 < period },
+    ghost falls: { 0 < beat },
 }
 
 /// 200 Hz, to the left, two beats to a bar of 1,000 frames.
@@ -37,32 +39,28 @@ pub const BELL: Tone = Tone {
 };
 
 /// How far a frame is into the cycle that it falls in, from 0 up to 1.
-fn through(frame: u32, cycle: u32) -> f32
+fn through(frame: usize, cycle: usize) -> f32
     requires { 0 < cycle }
 {
-    std::num::nearest_u32_to_f32(frame % cycle) / std::num::nearest_u32_to_f32(cycle)
+    std::num::nearest_usize_to_f32(frame % cycle) / std::num::nearest_usize_to_f32(cycle)
 }
 
-/// A frame of a tone at full: the saw rises from -1 to 1, the beat falls from 1 to 0.
-fn level(t: Tone, frame: u32) -> f32
-    requires { (0 < t.period) × (0 < t.beat) }
-{
-    let saw = through(frame, t.period) * 2.0 - 1.0;
-    let fall = 1.0 - through(frame, t.beat);
-    saw * fall
-}
+impl Tone {
+    /// A frame at full: the saw rises from -1 to 1, the beat falls from 1 to 0.
+    fn level(self, frame: usize) -> f32 {
+        let saw = through(frame, self.period) * 2.0 - 1.0;
+        let fall = 1.0 - through(frame, self.beat);
+        saw * fall
+    }
 
-/// Fills a clip with a tone from its first frame on.
-pub fn sound(clip: &mut [f32], t: Tone)
-    requires { (0 < t.period) × (0 < t.beat) }
-{
-    let mut at: usize = 0;
-    let mut frame: u32 = 0;
-    while at + 1 < clip.len() {
-        let x = level(t, frame);
-        clip[at] = x * t.left;
-        clip[at + 1] = x * t.right;
-        at += 2;
-        frame = std::num::wrapping_add_u32(frame, 1);
+    /// Fills a clip from its first frame on.
+    pub fn sound(self, clip: &mut [f32]) {
+        for (frame, samples) in clip.chunks_mut(2).enumerate() {
+            if let [left, right] = samples {
+                let x = self.level(frame);
+                *left = x * self.left;
+                *right = x * self.right;
+            }
+        }
     }
 }

@@ -16,109 +16,62 @@ pub const BELL: Handle = Handle { slot: 2, serial: 3 };
 #[derive(Clone, Copy)]
 pub enum Cue {
     Blocks(u32),
+    /// A submission at once.
+    Now(Submission),
     Submit(Submission, At),
     Retire(Handle),
-    Rest,
-}
-
-/// A submission at once.
-fn now(x: Submission) -> Cue {
-    Cue::Submit(x, At::Immediate)
 }
 
 /// The hall is entered, its second bar goes round, and the bell rings over it.
-fn round_the_hall(i: u32) -> Cue {
-    match i {
-        0 => now(Submission::Play),
-        1 => now(Submission::Loop(SongFrame(1000), SongFrame(2000))),
-        2 => Cue::Blocks(9),
-        3 => Cue::Submit(Submission::Stinger(BELL, 0.75), At::Frame(ClockFrame(2500))),
-        4 => Cue::Blocks(4),
-        _ => Cue::Rest,
-    }
-}
+pub const ROUND_THE_HALL: [Cue; 5] = [
+    Cue::Now(Submission::Play),
+    Cue::Now(Submission::Loop(SongFrame(1000), SongFrame(2000))),
+    Cue::Blocks(9),
+    Cue::Submit(Submission::Stinger(BELL, 0.75), At::Frame(ClockFrame(2500))),
+    Cue::Blocks(4),
+];
 
 /// At the end of a bar the nave takes over, and the hall fades.
-fn into_the_nave(i: u32) -> Cue {
-    match i {
-        0 => Cue::Submit(Submission::Swap(NAVE), At::Song(SongFrame(2000))),
-        1 => now(Submission::ClearLoop),
-        2 => Cue::Blocks(4),
-        3 => Cue::Retire(HALL),
-        4 => Cue::Blocks(3),
-        _ => Cue::Rest,
-    }
-}
+pub const INTO_THE_NAVE: [Cue; 5] = [
+    Cue::Submit(Submission::Swap(NAVE), At::Song(SongFrame(2000))),
+    Cue::Now(Submission::ClearLoop),
+    Cue::Blocks(4),
+    Cue::Retire(HALL),
+    Cue::Blocks(3),
+];
 
 /// Now that the hall has faded it is retired, and nobody comes back to it. A halt, and a walk on.
-fn halt(i: u32) -> Cue {
-    match i {
-        0 => Cue::Retire(HALL),
-        1 => now(Submission::Swap(HALL)),
-        2 => now(Submission::Pause),
-        3 => Cue::Blocks(2),
-        4 => now(Submission::Play),
-        5 => Cue::Blocks(1),
-        _ => Cue::Rest,
-    }
-}
+pub const HALT: [Cue; 6] = [
+    Cue::Retire(HALL),
+    Cue::Now(Submission::Swap(HALL)),
+    Cue::Now(Submission::Pause),
+    Cue::Blocks(2),
+    Cue::Now(Submission::Play),
+    Cue::Blocks(1),
+];
 
 /// The music is turned down for a word from the guide, and up again.
-fn word(i: u32) -> Cue {
-    match i {
-        0 => now(Submission::Gain(0.25)),
-        1 => Cue::Blocks(3),
-        2 => now(Submission::Gain(1.0)),
-        3 => Cue::Blocks(1),
-        _ => Cue::Rest,
-    }
-}
+pub const WORD: [Cue; 4] = [
+    Cue::Now(Submission::Gain(0.25)),
+    Cue::Blocks(3),
+    Cue::Now(Submission::Gain(1.0)),
+    Cue::Blocks(1),
+];
 
 /// On to the last bar, and out.
-fn leave(i: u32) -> Cue {
-    match i {
-        0 => Cue::Blocks(1),
-        1 => now(Submission::Seek(SongFrame(2000))),
-        2 => Cue::Blocks(2),
-        3 => now(Submission::Stop),
-        4 => Cue::Blocks(1),
-        _ => Cue::Rest,
-    }
-}
+pub const LEAVE: [Cue; 5] = [
+    Cue::Blocks(1),
+    Cue::Now(Submission::Seek(SongFrame(2000))),
+    Cue::Blocks(2),
+    Cue::Now(Submission::Stop),
+    Cue::Blocks(1),
+];
 
 /// The music is turned down in the hall, and still is when the nave takes over.
-fn low(i: u32) -> Cue {
-    match i {
-        0 => now(Submission::Play),
-        1 => now(Submission::Gain(0.25)),
-        2 => Cue::Blocks(2),
-        3 => now(Submission::Swap(NAVE)),
-        4 => Cue::Blocks(3),
-        _ => Cue::Rest,
-    }
-}
-
-/// A stretch of the tour.
-#[derive(Clone, Copy)]
-pub enum Scene {
-    Hall,
-    Nave,
-    Halt,
-    Word,
-    Leave,
-    Low,
-}
-
-/// No scene has more cues than this.
-pub const CUES: u32 = 6;
-
-pub fn next(scene: Scene, i: u32) -> Cue {
-    match scene {
-        Scene::Hall => round_the_hall(i),
-        Scene::Nave => into_the_nave(i),
-        Scene::Halt => halt(i),
-        Scene::Word => word(i),
-        Scene::Leave => leave(i),
-        Scene::Low => low(i),
-    }
-}
+pub const LOW: [Cue; 5] = [
+    Cue::Now(Submission::Play),
+    Cue::Now(Submission::Gain(0.25)),
+    Cue::Blocks(2),
+    Cue::Now(Submission::Swap(NAVE)),
+    Cue::Blocks(3),
+];

@@ -1,10 +1,11 @@
 //! A visit: each call on a session, over the stores that its host keeps, with its answer told on the sheet.
+use crate::rooms::{BELL, HALL, NAVE};
 use crate::score::Cue;
-use crate::{rooms, sheet};
+use crate::sheet;
 use bank::Kind;
 use control::PerformanceSnapshot;
 use counts::{Handle, SongFrame};
-use session::{Refusal, Session};
+use session::{Answered, Refusal, Session};
 use stage::{AS_TONO, Settings};
 use std::io;
 use timeline::Submission;
@@ -15,246 +16,165 @@ const RATE: u32 = 8000;
 fn settings(mode: u32) -> Settings {
     Settings {
         rate: RATE,
-        mode: mode,
+        mode,
         queue: 8,
         capture: 8,
         pool: 8000,
     }
 }
 
-// ---- opening and loading
-
-/// A visit begins in the hall, with the nave and the bell at hand.
-pub fn enter(
-    rt: &impl Print,
-    queue: &[u64; 40],
-    capture: &[u64; 40],
-    pool: &mut [f32; 16000],
-) -> io::Result<Session> {
-    let mut hall = [0.0; 8000];
-    let mut nave = [0.0; 6000];
-    let mut bell = [0.0; 1200];
-    rooms::sound(&mut hall, rooms::HALL);
-    rooms::sound(&mut nave, rooms::NAVE);
-    rooms::sound(&mut bell, rooms::BELL);
-    let s = open(rt, AS_TONO, queue, capture, pool, &hall, SongFrame(4000))?;
-    let t = load(
-        rt,
-        s,
-        queue,
-        capture,
-        pool,
-        &nave,
-        Kind::Song(SongFrame(3000)),
-    )?;
-    load(rt, t, queue, capture, pool, &bell, Kind::Stinger)
+/// A session, and the stores that its host keeps.
+#[derive(Drop)]
+pub struct Visit {
+    session: Session,
+    queue: [u64; 40],
+    capture: [u64; 40],
+    pool: [f32; 16000],
 }
 
-/// A visit to the hall's first two bars and the nave's first, in a mode.
-pub fn enter_briefly(
-    rt: &impl Print,
-    mode: u32,
-    queue: &[u64; 40],
-    capture: &[u64; 40],
-    pool: &mut [f32; 16000],
-) -> io::Result<Session> {
-    let mut hall = [0.0; 4000];
-    let mut nave = [0.0; 2000];
-    rooms::sound(&mut hall, rooms::HALL);
-    rooms::sound(&mut nave, rooms::NAVE);
-    let s = open(rt, mode, queue, capture, pool, &hall, SongFrame(2000))?;
-    load(
-        rt,
-        s,
-        queue,
-        capture,
-        pool,
-        &nave,
-        Kind::Song(SongFrame(1000)),
-    )
-}
+impl Visit {
+    // ---- opening and loading
 
-fn open(
-    rt: &impl Print,
-    mode: u32,
-    queue: &[u64; 40],
-    capture: &[u64; 40],
-    pool: &mut [f32; 16000],
-    hall: &[f32],
-    lasts: SongFrame,
-) -> io::Result<Session> {
-    let r = clips::open(settings(mode), queue, capture, pool, hall, RATE, lasts);
-    let a = r.answer;
-    sheet::loaded(rt, a)?;
-    Ok(r.session)
-}
-
-fn load(
-    rt: &impl Print,
-    s: Session,
-    queue: &[u64; 40],
-    capture: &[u64; 40],
-    pool: &mut [f32; 16000],
-    clip: &[f32],
-    kind: Kind,
-) -> io::Result<Session> {
-    let r = clips::load(s, queue, capture, pool, clip, kind, RATE);
-    let a = r.answer;
-    sheet::loaded(rt, a)?;
-    Ok(r.session)
-}
-
-// ---- the other calls
-
-/// One block.
-fn block(
-    rt: &impl Print,
-    s: Session,
-    queue: &[u64; 40],
-    capture: &[u64; 40],
-    pool: &[f32; 16000],
-) -> io::Result<Session> {
-    let mut out = [0.0; 512];
-    let r = block::block(s, queue, capture, pool, &mut out);
-    let after = r.session;
-    sheet::line(rt, after, &out)?;
-    Ok(after)
-}
-
-pub fn blocks(
-    rt: &impl Print,
-    s: Session,
-    queue: &[u64; 40],
-    capture: &[u64; 40],
-    pool: &[f32; 16000],
-    times: u32,
-) -> io::Result<Session> {
-    let mut s = s;
-    let mut left = times;
-    while left > 0 {
-        s = block(rt, s, queue, capture, pool)?;
-        left -= 1;
+    /// A visit begins in the hall, with the nave and the bell at hand.
+    pub fn enter(rt: &impl Print) -> io::Result<Visit> {
+        let mut hall = [0.0; 8000];
+        let mut nave = [0.0; 6000];
+        let mut bell = [0.0; 1200];
+        HALL.sound(&mut hall);
+        NAVE.sound(&mut nave);
+        BELL.sound(&mut bell);
+        let mut visit = Visit::open(rt, AS_TONO, &hall, SongFrame(4000))?;
+        visit.load(rt, &nave, Kind::Song(SongFrame(3000)))?;
+        visit.load(rt, &bell, Kind::Stinger)?;
+        Ok(visit)
     }
-    Ok(s)
-}
 
-fn submit(
-    rt: &impl Print,
-    s: Session,
-    queue: &mut [u64; 40],
-    capture: &mut [u64; 40],
-    x: Submission,
-    at: At,
-) -> io::Result<Session> {
-    sheet::due(rt, s, at)?;
-    let r = submission::submit(s, queue, capture, x, at);
-    let a = r.answer;
-    print::submit_answer(rt, a)?;
-    Ok(r.session)
-}
+    /// A visit to the hall's first two bars and the nave's first, in a mode.
+    pub fn enter_briefly(rt: &impl Print, mode: u32) -> io::Result<Visit> {
+        let mut hall = [0.0; 4000];
+        let mut nave = [0.0; 2000];
+        HALL.sound(&mut hall);
+        NAVE.sound(&mut nave);
+        let mut visit = Visit::open(rt, mode, &hall, SongFrame(2000))?;
+        visit.load(rt, &nave, Kind::Song(SongFrame(1000)))?;
+        Ok(visit)
+    }
 
-fn retire(
-    rt: &impl Print,
-    s: Session,
-    queue: &[u64; 40],
-    capture: &[u64; 40],
-    h: Handle,
-) -> io::Result<Session> {
-    let r = clips::retire(s, queue, capture, h);
-    let a = r.answer;
-    print::answer(rt, a)?;
-    Ok(r.session)
-}
+    fn open(rt: &impl Print, mode: u32, hall: &[f32], lasts: SongFrame) -> io::Result<Visit> {
+        let queue = [0; 40];
+        let capture = [0; 40];
+        let mut pool = [0.0; 16000];
+        let r = clips::open(
+            settings(mode),
+            &queue,
+            &capture,
+            &mut pool,
+            hall,
+            RATE,
+            lasts,
+        );
+        sheet::loaded(rt, r.answer)?;
+        Ok(Visit {
+            session: r.session,
+            queue,
+            capture,
+            pool,
+        })
+    }
 
-pub fn start_capture(
-    rt: &impl Print,
-    s: Session,
-    queue: &[u64; 40],
-    capture: &[u64; 40],
-) -> io::Result<Session> {
-    let r = control::start_capture(s, queue, capture);
-    let a = r.answer;
-    sheet::started(rt, a)?;
-    Ok(r.session)
-}
+    fn load(&mut self, rt: &impl Print, clip: &[f32], kind: Kind) -> io::Result<()> {
+        let r = clips::load(
+            self.session,
+            &self.queue,
+            &self.capture,
+            &mut self.pool,
+            clip,
+            kind,
+            RATE,
+        );
+        sheet::loaded(rt, self.after(r))
+    }
 
-pub fn stop_capture(
-    rt: &impl Print,
-    s: Session,
-    queue: &[u64; 40],
-    capture: &[u64; 40],
-    list: &mut [u64; 25],
-) -> io::Result<Session> {
-    let r = control::stop_capture(s, queue, capture, list);
-    let a = r.answer;
-    sheet::stopped(rt, a)?;
-    Ok(r.session)
-}
+    /// What a call answered; the session is what it left.
+    fn after<T>(&mut self, r: Answered<T>) -> Result<T, Refusal> {
+        self.session = r.session;
+        r.answer
+    }
 
-pub fn replay(
-    rt: &impl Print,
-    s: Session,
-    queue: &mut [u64; 40],
-    capture: &[u64; 40],
-    list: &[u64; 25],
-) -> io::Result<Session> {
-    let r = submission::replay(s, queue, capture, list);
-    let a = r.answer;
-    sheet::replayed(rt, a)?;
-    Ok(r.session)
-}
+    // ---- the other calls
 
-pub fn snapshot(
-    rt: &impl Print,
-    s: Session,
-    queue: &[u64; 40],
-    capture: &[u64; 40],
-) -> io::Result<PerformanceSnapshot> {
-    let r = control::snapshot(s, queue, capture);
-    let a = r.answer;
-    sheet::snapshot(rt, a)?;
-    Ok(taken(a))
-}
+    /// One block.
+    fn block(&mut self, rt: &impl Print) -> io::Result<()> {
+        let mut out = [0.0; 512];
+        let r = block::block(
+            self.session,
+            &self.queue,
+            &self.capture,
+            &self.pool,
+            &mut out,
+        );
+        self.session = r.session;
+        sheet::line(rt, self.session, &out)
+    }
 
-/// The snapshot that was taken; an opened session's where none was.
-fn taken(a: Result<PerformanceSnapshot, Refusal>) -> PerformanceSnapshot {
-    match a {
-        Ok(x) => x,
-        Err(_) => PerformanceSnapshot {
+    pub fn blocks(&mut self, rt: &impl Print, times: u32) -> io::Result<()> {
+        for _ in 0..times {
+            self.block(rt)?;
+        }
+        Ok(())
+    }
+
+    fn submit(&mut self, rt: &impl Print, x: Submission, at: At) -> io::Result<()> {
+        sheet::due(rt, self.session, at)?;
+        let r = submission::submit(self.session, &mut self.queue, &mut self.capture, x, at);
+        print::submit_answer(rt, self.after(r))
+    }
+
+    fn retire(&mut self, rt: &impl Print, h: Handle) -> io::Result<()> {
+        let r = clips::retire(self.session, &self.queue, &self.capture, h);
+        print::answer(rt, self.after(r))
+    }
+
+    pub fn start_capture(&mut self, rt: &impl Print) -> io::Result<()> {
+        let r = control::start_capture(self.session, &self.queue, &self.capture);
+        sheet::started(rt, self.after(r))
+    }
+
+    pub fn stop_capture(&mut self, rt: &impl Print, list: &mut [u64; 25]) -> io::Result<()> {
+        let r = control::stop_capture(self.session, &self.queue, &self.capture, list);
+        sheet::stopped(rt, self.after(r))
+    }
+
+    pub fn replay(&mut self, rt: &impl Print, list: &[u64; 25]) -> io::Result<()> {
+        let r = submission::replay(self.session, &mut self.queue, &self.capture, list);
+        sheet::replayed(rt, self.after(r))
+    }
+
+    /// The snapshot that was taken; an opened session's where none was.
+    pub fn snapshot(&mut self, rt: &impl Print) -> io::Result<PerformanceSnapshot> {
+        let r = control::snapshot(self.session, &self.queue, &self.capture);
+        let a = self.after(r);
+        sheet::snapshot(rt, a)?;
+        Ok(a.unwrap_or(PerformanceSnapshot {
             position: SongFrame(0),
             state: TransportState::Stopped,
             gain: 1.0,
             looped: None,
-        },
+        }))
     }
-}
 
-pub fn apply(
-    rt: &impl Print,
-    s: Session,
-    queue: &[u64; 40],
-    capture: &[u64; 40],
-    x: PerformanceSnapshot,
-) -> io::Result<Session> {
-    let r = control::apply_snapshot(s, queue, capture, x);
-    let a = r.answer;
-    sheet::applied(rt, a)?;
-    Ok(r.session)
-}
+    pub fn apply(&mut self, rt: &impl Print, x: PerformanceSnapshot) -> io::Result<()> {
+        let r = control::apply_snapshot(self.session, &self.queue, &self.capture, x);
+        sheet::applied(rt, self.after(r))
+    }
 
-/// Does what a cue says.
-pub fn perform(
-    rt: &impl Print,
-    s: Session,
-    queue: &mut [u64; 40],
-    capture: &mut [u64; 40],
-    pool: &[f32; 16000],
-    cue: Cue,
-) -> io::Result<Session> {
-    match cue {
-        Cue::Blocks(n) => blocks(rt, s, queue, capture, pool, n),
-        Cue::Submit(x, at) => submit(rt, s, queue, capture, x, at),
-        Cue::Retire(h) => retire(rt, s, queue, capture, h),
-        Cue::Rest => Ok(s),
+    /// Does what a cue says.
+    pub fn perform(&mut self, rt: &impl Print, cue: Cue) -> io::Result<()> {
+        match cue {
+            Cue::Blocks(n) => self.blocks(rt, n),
+            Cue::Now(x) => self.submit(rt, x, At::Immediate),
+            Cue::Submit(x, at) => self.submit(rt, x, at),
+            Cue::Retire(h) => self.retire(rt, h),
+        }
     }
 }
