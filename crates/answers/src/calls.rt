@@ -1,13 +1,16 @@
 //! The calls: each does what its line asks.
-ghost use Rattle.std.specs.Prelude.{◌≤◌, length};
+ghost use Rattle.std.specs.Prelude.{◌≤◌};
 
+use crate::asked::Call;
 use crate::lines::Line;
 use crate::told::{Seat, Told};
-use crate::{asked, marks, told};
+use crate::{marks, told};
+use bank::Kind;
 use counts::{Handle, SongFrame};
-use session::{Answered, Session};
+use session::Refusal;
 use stage::{AS_TONO, Settings};
-use submission::Report;
+use timeline::Submission;
+use transport::At;
 
 const RATE: u32 = 48000;
 
@@ -21,10 +24,10 @@ const SETTINGS: Settings = Settings {
 };
 
 /// The words of a queue, of a capture and of a list of captured records.
-pub const WORDS: usize = 20480;
+const WORDS: usize = 20480;
 
 /// The pool's samples.
-pub const SAMPLES: usize = 65536;
+const SAMPLES: usize = 65536;
 
 /// The samples of the longest block.
 const OUT: usize = 8192;
@@ -43,17 +46,7 @@ pub fn nobody() -> Seat {
         RATE,
         SongFrame(0),
     );
-    told::seated(r)
-}
-
-/// The lesser of two counts.
-fn lesser(n: usize, most: usize) -> usize
-    ensures { result ≤ most }
-{
-    if n > most {
-        return most;
-    }
-    n
+    Seat::of(r.session)
 }
 
 /// So many places as frames need, of those that there are.
@@ -63,180 +56,158 @@ fn places(frames: u64, most: usize) -> usize
     if frames > 32768 {
         return most;
     }
-    lesser((frames * 2) as usize, most)
+    ((frames * 2) as usize).min(most)
 }
 
-// ---- clips
-
-/// An opening on the first samples of those that a seed made.
-fn open_song(
-    queue: &[u64],
-    capture: &[u64],
-    pool: &mut [f32],
-    made: &[f32],
-    frames: u64,
-    extent: u64,
-) -> Answered<Handle> {
-    let n = places(frames, made.len());
-    let lasts = SongFrame(extent);
-    clips::open(SETTINGS, queue, capture, pool, &made[..n], RATE, lasts)
+/// What a session is lent, and the list of records that its last stop gave.
+#[derive(Clone, Copy)]
+pub struct Stores {
+    pub queue: [u64; WORDS],
+    capture: [u64; WORDS],
+    pool: [f32; SAMPLES],
+    list: [u64; WORDS],
 }
 
-pub fn open(
-    queue: &[u64; WORDS],
-    capture: &[u64; WORDS],
-    pool: &mut [f32; SAMPLES],
-    l: Line,
-) -> Told {
-    let made = marks::made(l.words[3]);
-    let r = open_song(queue, capture, pool, &made, l.words[1], l.words[2]);
-    let seat = told::seated(r);
-    told::loaded(seat, l, r)
+impl Stores {
+    pub fn empty() -> Stores {
+        Stores {
+            queue: [0; WORDS],
+            capture: [0; WORDS],
+            pool: [0.0; SAMPLES],
+            list: [0; WORDS],
+        }
+    }
+
+    /// Does what a call asks. Its line's numbers that ask are given beside it.
+    pub fn call(&mut self, seat: Seat, call: Call, asks: Line) -> Told {
+        match call {
+            Call::Open {
+                frames,
+                extent,
+                seed,
+            } => self.open(asks, frames, extent, seed),
+            Call::Load { kind, frames, seed } => self.load(seat, asks, kind, frames, seed),
+            Call::Retire(h) => self.retire(seat, asks, h),
+            Call::Submit(x, at) => self.submit(seat, asks, x, at),
+            Call::Transition(frame, at) => self.transition(seat, asks, frame, at),
+            Call::Block(frames) => self.block(seat, asks, frames),
+            Call::StartCapture => self.start_capture(seat, asks),
+            Call::StopCapture => self.stop_capture(seat, asks),
+            Call::Replay => self.replay(seat, asks),
+            Call::Snapshot => self.snapshot(seat, asks),
+            Call::Apply => self.apply(seat, asks),
+        }
+    }
+
+    // ---- clips
+
+    /// An opening on the first samples of those that a seed makes.
+    fn open(&mut self, asks: Line, frames: u64, extent: SongFrame, seed: u64) -> Told {
+        let made = marks::made(seed);
+        let n = places(frames, SAMPLES);
+        let r = clips::open(
+            SETTINGS,
+            &self.queue,
+            &self.capture,
+            &mut self.pool,
+            &made[..n],
+            RATE,
+            extent,
+        );
+        Seat::of(r.session).told(asks, r, told::handle)
+    }
+
+    /// A load of the first samples of those that a seed makes.
+    fn load(&mut self, seat: Seat, asks: Line, kind: Kind, frames: u64, seed: u64) -> Told {
+        let made = marks::made(seed);
+        let n = places(frames, SAMPLES);
+        let r = clips::load(
+            seat.session,
+            &self.queue,
+            &self.capture,
+            &mut self.pool,
+            &made[..n],
+            kind,
+            RATE,
+        );
+        seat.told(asks, r, told::handle)
+    }
+
+    fn retire(&self, seat: Seat, asks: Line, h: Handle) -> Told {
+        let r = clips::retire(seat.session, &self.queue, &self.capture, h);
+        seat.told(asks, r, told::done)
+    }
+
+    // ---- commands
+
+    fn submit(&mut self, seat: Seat, asks: Line, x: Submission, at: At) -> Told {
+        let r = submission::submit(seat.session, &mut self.queue, &mut self.capture, x, at);
+        seat.told(asks, r, told::number)
+    }
+
+    fn transition(&mut self, seat: Seat, asks: Line, frame: SongFrame, at: At) -> Told {
+        let r = submission::transition(seat.session, &mut self.queue, &mut self.capture, frame, at);
+        seat.told(asks, r, told::number)
+    }
+
+    /// A replay of the records that the last stop gave.
+    fn replay(&mut self, seat: Seat, asks: Line) -> Told {
+        let n = seat.listed.min(WORDS);
+        let r = submission::replay(
+            seat.session,
+            &mut self.queue,
+            &self.capture,
+            &self.list[..n],
+        );
+        seat.told(asks, r, told::report)
+    }
+
+    // ---- block
+
+    fn block(&self, seat: Seat, asks: Line, frames: u64) -> Told {
+        let mut out = [0.0; OUT];
+        let n = places(frames, OUT);
+        let r = block::block(
+            seat.session,
+            &self.queue,
+            &self.capture,
+            &self.pool,
+            &mut out[..n],
+        );
+        let digest = marks::of_samples(&out[..n]);
+        seat.told(asks, r, |l, a| told::passes(l.push(digest)?, a))
+    }
+
+    // ---- control
+
+    fn start_capture(&self, seat: Seat, asks: Line) -> Told {
+        let r = control::start_capture(seat.session, &self.queue, &self.capture);
+        seat.told(asks, r, told::done)
+    }
+
+    fn stop_capture(&mut self, mut seat: Seat, asks: Line) -> Told {
+        let r = control::stop_capture(seat.session, &self.queue, &self.capture, &mut self.list);
+        let listed = words_of(r.answer);
+        let digest = marks::of_words(&self.list[..listed]);
+        seat.listed = listed;
+        seat.told(asks, r, |l, a| told::copied(l, a, digest))
+    }
+
+    fn snapshot(&self, mut seat: Seat, asks: Line) -> Told {
+        let r = control::snapshot(seat.session, &self.queue, &self.capture);
+        seat.snapshot = r.answer.unwrap_or(seat.snapshot);
+        seat.told(asks, r, told::snapshot)
+    }
+
+    fn apply(&self, seat: Seat, asks: Line) -> Told {
+        let r = control::apply_snapshot(seat.session, &self.queue, &self.capture, seat.snapshot);
+        seat.told(asks, r, told::done)
+    }
 }
 
-/// A load of the first samples of those that a seed made.
-fn load_clip(
-    s: Session,
-    queue: &[u64],
-    capture: &[u64],
-    pool: &mut [f32],
-    made: &[f32],
-    l: Line,
-) -> Answered<Handle> {
-    let kind = asked::kind(l);
-    let n = places(l.words[2], made.len());
-    clips::load(s, queue, capture, pool, &made[..n], kind, RATE)
-}
-
-pub fn load(
-    seat: Seat,
-    queue: &[u64; WORDS],
-    capture: &[u64; WORDS],
-    pool: &mut [f32; SAMPLES],
-    l: Line,
-) -> Told {
-    let s = seat.session;
-    let made = marks::made(l.words[4]);
-    let r = load_clip(s, queue, capture, pool, &made, l);
-    told::loaded(seat, l, r)
-}
-
-pub fn retire(seat: Seat, queue: &[u64; WORDS], capture: &[u64; WORDS], l: Line) -> Told {
-    let s = seat.session;
-    let h = asked::retired(l);
-    let r = clips::retire(s, queue, capture, h);
-    told::answered(seat, l, r)
-}
-
-// ---- commands
-
-pub fn submit(seat: Seat, queue: &mut [u64; WORDS], capture: &mut [u64; WORDS], l: Line) -> Told {
-    let s = seat.session;
-    let x = asked::submission(l);
-    let at = asked::submission_due(l);
-    let r = submission::submit(s, queue, capture, x, at);
-    told::submitted(seat, l, r)
-}
-
-pub fn transition(
-    seat: Seat,
-    queue: &mut [u64; WORDS],
-    capture: &mut [u64; WORDS],
-    l: Line,
-) -> Told {
-    let s = seat.session;
-    let frame = SongFrame(l.words[1]);
-    let at = asked::transition_due(l);
-    let r = submission::transition(s, queue, capture, frame, at);
-    told::submitted(seat, l, r)
-}
-
-/// The words that the last stop gave.
-fn replay_listed(
-    s: Session,
-    queue: &mut [u64],
-    capture: &[u64],
-    list: &[u64],
-    listed: usize,
-) -> Answered<Report> {
-    let n = lesser(listed, list.len());
-    submission::replay(s, queue, capture, &list[..n])
-}
-
-pub fn replay(
-    seat: Seat,
-    queue: &mut [u64; WORDS],
-    capture: &[u64; WORDS],
-    list: &[u64; WORDS],
-    l: Line,
-) -> Told {
-    let s = seat.session;
-    let r = replay_listed(s, queue, capture, list, seat.listed);
-    told::replayed(seat, l, r)
-}
-
-// ---- block
-
-/// A block into the first n places.
-fn make(
-    s: Session,
-    queue: &[u64],
-    capture: &[u64],
-    pool: &[f32],
-    out: &mut [f32],
-    n: usize,
-) -> Answered<u64>
-    requires { n ≤ length out.old }
+/// How many words a stop gave: five for a record.
+fn words_of(a: Result<usize, Refusal>) -> usize
+    ensures { result ≤ 20480 }
 {
-    block::block(s, queue, capture, pool, &mut out[..n])
-}
-
-pub fn block(
-    seat: Seat,
-    queue: &[u64; WORDS],
-    capture: &[u64; WORDS],
-    pool: &[f32; SAMPLES],
-    l: Line,
-) -> Told {
-    let s = seat.session;
-    let mut out = [0.0; OUT];
-    let n = places(l.words[1], OUT);
-    let r = make(s, queue, capture, pool, &mut out, n);
-    let digest = marks::of_samples(&out, n);
-    told::block(seat, l, r, digest)
-}
-
-// ---- control
-
-pub fn start_capture(seat: Seat, queue: &[u64; WORDS], capture: &[u64; WORDS], l: Line) -> Told {
-    let s = seat.session;
-    let r = control::start_capture(s, queue, capture);
-    told::answered(seat, l, r)
-}
-
-pub fn stop_capture(
-    seat: Seat,
-    queue: &[u64; WORDS],
-    capture: &[u64; WORDS],
-    list: &mut [u64; WORDS],
-    l: Line,
-) -> Told {
-    let s = seat.session;
-    let r = control::stop_capture(s, queue, capture, list);
-    let listed = told::listed(r);
-    let digest = marks::of_words(list, listed);
-    told::stopped(seat, l, r, listed, digest)
-}
-
-pub fn snapshot(seat: Seat, queue: &[u64; WORDS], capture: &[u64; WORDS], l: Line) -> Told {
-    let s = seat.session;
-    let r = control::snapshot(s, queue, capture);
-    told::snapped(seat, l, r)
-}
-
-pub fn apply(seat: Seat, queue: &[u64; WORDS], capture: &[u64; WORDS], l: Line) -> Told {
-    let s = seat.session;
-    let x = seat.snapshot;
-    let r = control::apply_snapshot(s, queue, capture, x);
-    told::answered(seat, l, r)
+    a.unwrap_or(0).min(4096) * 5
 }

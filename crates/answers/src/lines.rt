@@ -1,148 +1,156 @@
 //! Lines of the list: decimal numbers, between which every byte that is no digit is skipped.
-ghost use Rattle.std.specs.Prelude.{◌≡◌, ◌<◌};
-ghost use Rattle.answers.specs.Lines.{agrees_at, same_numbers};
+ghost use Rattle.std.specs.Prelude.{◌≡◌, ◌<◌, ◌≤◌};
 
-/// The largest number of 64 bits.
-const LAST: u64 = 18446744073709551615;
+use std::fmt;
 
-const NEWLINE: u8 = 10;
+/// The most numbers of a line.
+const MOST: usize = 24;
 
-/// The numbers of a line. More than 24 of them, or one of more than 64 bits, cannot be read.
+/// The numbers of a line.
 #[derive(Clone, Copy)]
 pub struct Line {
-    pub words: [u64; 24],
+    pub words: [u64; MOST],
     pub count: usize,
-    pub readable: bool,
+    ghost inside: { count ≤ 24 },
 }
 
 impl Line {
+    ghost use Rattle.counts.specs.Below.{all_below};
+    ghost use Rattle.answers.specs.Lines.{agrees_at, same_numbers};
+
     pub fn none() -> Line {
         Line {
-            words: [0; 24],
+            words: [0; MOST],
             count: 0,
-            readable: true,
         }
     }
 
-    /// One more number.
-    pub fn push(mut self, n: u64) -> Line {
-        let count = self.count;
-        if count < 24 {
-            self.words[count] = n;
-            self.count = count + 1;
-            return self;
+    /// One more number, if there is a place for it.
+    pub fn push(mut self, n: u64) -> Option<Line> {
+        if self.count == MOST {
+            return None;
         }
-        self.readable = false;
-        self
+        self.words[self.count] = n;
+        self.count += 1;
+        Some(self)
+    }
+
+    /// Some more numbers, if there are places for them.
+    pub fn with(self, numbers: &[u64]) -> Option<Line> {
+        let mut line = self;
+        for n in numbers {
+            line = line.push(*n)?;
+        }
+        Some(line)
     }
 
     /// Its first numbers alone.
-    pub fn first(mut self, n: usize) -> Line {
+    pub fn first(mut self, n: usize) -> Line
+        requires { n ≤ 24 }
+    {
         self.count = n;
         self
     }
 
-    /// The one number that a line of one number has.
-    pub fn is_only(self, n: u64) -> bool {
-        self.readable & (self.count == 1) & (self.words[0] == n)
+    /// Its numbers from a place on.
+    pub fn from(&self, place: usize) -> Numbers<'_> {
+        Numbers(self.words[..self.count].get(place..).unwrap_or(&[]))
     }
-}
 
-/// A line ends before a place, or another has the same number there.
-fn agrees_at(a: Line, b: Line, i: usize) -> bool
-    requires { i < 24 }
-    ensures { result ≡ agrees_at a b i }
-{
-    (a.count <= i) | (a.words[i] == b.words[i])
-}
+    /// It has one number, which is this one.
+    pub fn is_only(self, n: u64) -> bool {
+        self.count == 1 && self.words[0] == n
+    }
 
-/// Two lines have the same numbers.
-pub fn same(a: Line, b: Line) -> bool
-    ensures { result ≡ same_numbers a b }
-{
-    let mut i: usize = 0;
-    while i < 24 {
-        if agrees_at(a, b, i) {
-            i += 1;
-        } else {
-            return false;
+    /// It ends before a place, or another has the same number there.
+    fn agrees_at(self, other: Line, i: usize) -> bool
+        requires { i < 24 }
+        ensures { result ≡ agrees_at self other i }
+    {
+        self.count <= i || self.words[i] == other.words[i]
+    }
+
+    /// As far as it goes, another has the same numbers.
+    fn agrees(self, other: Line) -> bool
+        ensures { result ≡ all_below 24 (agrees_at self other) }
+    {
+        (0..MOST).all(|i| self.agrees_at(other, i))
+    }
+
+    /// Another has the same numbers.
+    #[tactic(auto, unfolding(crate::specs::Lines::same_numbers))]
+    pub fn same(self, other: Option<Line>) -> bool
+        ensures { result ≡ same_numbers self other }
+    {
+        match other {
+            Some(line) => self.agrees(line) & (self.count == line.count),
+            None => false,
         }
     }
-    (a.count == b.count) & (a.readable & b.readable)
+}
+
+/// Numbers, each behind a space.
+#[derive(Clone, Copy)]
+pub struct Numbers<'a>(&'a [u64]);
+
+impl fmt::Display for Numbers<'_> {
+    fn fmt<W: fmt::Write>(&self, f: &mut fmt::Formatter<W>) -> fmt::Result {
+        for n in self.0 {
+            write!(f, " {n}")?;
+        }
+        Ok(())
+    }
 }
 
 /// A line being read: the numbers before, and the one whose digits are read, if one is.
 #[derive(Clone, Copy)]
 struct Partly {
     line: Line,
-    number: u64,
-    inside: bool,
+    number: Option<u64>,
 }
 
-/// A digit more, if the number then still has 64 bits.
-fn digit(mut p: Partly, d: u64) -> Partly {
-    if d > 9 {
-        return p;
-    }
-    if p.number > (LAST - d) / 10 {
-        let mut line = p.line;
-        line.readable = false;
-        p.line = line;
-        return p;
-    }
-    p.number = p.number * 10 + d;
-    p.inside = true;
-    p
-}
-
-/// The number's last digit is read.
-fn ended(p: Partly) -> Partly {
-    if !p.inside {
-        return p;
-    }
-    let line = p.line;
-    Partly {
-        line: line.push(p.number),
-        number: 0,
-        inside: false,
-    }
-}
-
-fn byte(p: Partly, b: u8) -> Partly {
-    if b < 48 {
-        return ended(p);
-    }
-    if b > 57 {
-        return ended(p);
-    }
-    digit(p, (b - 48) as u64)
-}
-
-/// A line, and where the next one begins.
-#[derive(Clone, Copy)]
-pub struct Read {
-    pub line: Line,
-    pub next: usize,
-}
-
-/// The line that begins at a place; past the text's end it has no number.
-pub fn at(text: &[u8], from: usize) -> Read {
-    let none = Line::none();
-    let mut p = Partly {
-        line: none,
-        number: 0,
-        inside: false,
-    };
-    let mut i = from;
-    while i < text.len() {
-        let b = text[i];
-        i += 1;
-        if b == NEWLINE {
-            break;
+impl Partly {
+    /// With one byte more, if the number that it then has is one of 64 bits.
+    fn with(self, b: u8) -> Option<Partly> {
+        if !b.is_ascii_digit() {
+            return self.ended();
         }
-        p = byte(p, b);
+        let tenfold = self.number.unwrap_or(0).checked_mul(10)?;
+        let number = tenfold.checked_add(u64::from(b - b'0'))?;
+        Some(Partly {
+            line: self.line,
+            number: Some(number),
+        })
     }
-    let last = ended(p);
-    let line = last.line;
-    Read { line, next: i }
+
+    /// The number's last digit is read.
+    fn ended(self) -> Option<Partly> {
+        match self.number {
+            Some(n) => Some(Partly {
+                line: self.line.push(n)?,
+                number: None,
+            }),
+            None => Some(self),
+        }
+    }
+}
+
+/// The line of these bytes. One of more than 24 numbers, or with one of more than 64 bits, cannot be read.
+fn read(bytes: &[u8]) -> Option<Line> {
+    let mut partly = Partly {
+        line: Line::none(),
+        number: None,
+    };
+    for b in bytes {
+        partly = partly.with(*b)?;
+    }
+    Some(partly.ended()?.line)
+}
+
+/// The first line of a text, if it can be read, and what stands behind it. Past the text's end it has no number.
+pub fn first(text: &[u8]) -> (Option<Line>, &[u8]) {
+    match text.iter().position(|&b| b == b'\n') {
+        Some(n) => (read(&text[..n]), &text[n + 1..]),
+        None => (read(text), &text[text.len()..]),
+    }
 }

@@ -6,36 +6,28 @@ mod calls;
 mod lines;
 mod marks;
 mod reach;
-mod rows;
 mod told;
 mod walk;
 
 use std::io;
 use walk::ROOM;
 
-/// Reads a list; what cannot be read is a list without a line.
-fn read(rt: &HostRuntime, bytes: &mut [u8; ROOM], name: &[u8]) -> usize {
-    match files::open(rt, name) {
-        Ok(file) => {
-            let mut file = file;
-            files::fill(&mut file, bytes).unwrap_or(0)
-        }
-        Err(_) => 0,
-    }
+/// Reads a list to the front of a store.
+fn read(rt: &HostRuntime, bytes: &mut [u8; ROOM], name: &[u8]) -> io::Result<usize> {
+    let mut file = files::open(rt, name)?;
+    files::fill(&mut file, bytes)
 }
 
+/// Replays a list; what cannot be read is a list without a line.
 fn replay(rt: &HostRuntime, bytes: &mut [u8; ROOM], name: &[u8]) -> io::Result<()> {
-    let count = read(rt, bytes, name);
-    walk::list(rt, bytes, count)
+    let count = read(rt, bytes, name).unwrap_or(0);
+    walk::list(rt, bytes.get(..count).unwrap_or(&[]))
 }
 
 /// The Rust's answers, and then a list that is wrong: what finds nothing in the first must find that.
 fn main(rt: HostRuntime) -> io::Result<()> {
     let mut bytes = [0; ROOM];
     replay(&rt, &mut bytes, b"answers")?;
-    print::text(
-        &rt,
-        b"\na list in which one number is wrong for each kind of call\n",
-    )?;
+    println!(rt; "\na list in which one number is wrong for each kind of call")?;
     replay(&rt, &mut bytes, b"mistaken")
 }

@@ -1,17 +1,13 @@
 //! The clips that seeds make, and the digests of samples and records.
-ghost use Rattle.std.specs.Prelude.{◌≤◌, length};
-
 use print::bits;
 
 /// The samples that a seed makes, as many as a pool holds: a clip is the first of them.
 pub fn made(seed: u64) -> [f32; 65536] {
     let mut samples = [0.0; 65536];
     let mut x = seed;
-    let mut i: usize = 0;
-    while i < 65536 {
+    for place in samples.iter_mut() {
         x = next(x);
-        samples[i] = sample(x);
-        i += 1;
+        *place = sample(x);
     }
     samples
 }
@@ -31,30 +27,14 @@ fn stir(digest: u64, word: u64) -> u64 {
     (digest % 4294967291 * 16777619 + word % 4294967296) % 4294967291
 }
 
-/// The digest of the first n samples.
-pub fn of_samples(samples: &[f32], n: usize) -> u64
-    requires { n ≤ length samples.now }
-{
-    let mut digest: u64 = 1;
-    let mut i: usize = 0;
-    while i < n {
-        digest = stir(digest, bits(samples[i]));
-        i += 1;
-    }
-    digest
+/// The digest of samples.
+pub fn of_samples(samples: &[f32]) -> u64 {
+    samples.iter().fold(1, |digest, &x| stir(digest, bits(x)))
 }
 
-/// The digest of the first n words: each as its low 32 bits, then its high 32 bits.
-pub fn of_words(words: &[u64], n: usize) -> u64
-    requires { n ≤ length words.now }
-{
-    let mut digest: u64 = 1;
-    let mut i: usize = 0;
-    while i < n {
-        let word = words[i];
-        let low = stir(digest, word);
-        digest = stir(low, word / 4294967296);
-        i += 1;
-    }
-    digest
+/// The digest of words: each as its low 32 bits, then its high 32 bits.
+pub fn of_words(words: &[u64]) -> u64 {
+    words.iter().fold(1, |digest, &word| {
+        stir(stir(digest, word), word / 4294967296)
+    })
 }

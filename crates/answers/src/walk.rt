@@ -2,14 +2,13 @@
 ghost use Rattle.std.specs.Prelude.{◌≡◌};
 ghost use Rattle.answers.specs.Lines.{one_more, counted};
 
-use crate::calls::{SAMPLES, WORDS};
+use crate::asked::Call;
+use crate::calls::Stores;
 use crate::lines::Line;
-use crate::reach::Reached;
-use crate::rows::{from, row};
+use crate::reach::{Moment, Reached};
 use crate::told::{Seat, Told};
-use crate::{asked, calls, lines, reach};
-use print::{number, text};
-use std::io;
+use crate::{calls, lines};
+use std::{fmt, io};
 
 /// The most bytes that a list has.
 const MOST: usize = 500000;
@@ -20,268 +19,136 @@ pub const ROOM: usize = 500001;
 /// So many differences are told; the others are counted.
 const TOLD: u64 = 16;
 
-/// Where the walk stands: our side and its first queued frame, what was reached, the line that was read, its number and
-/// the next one's place, how many sessions the first line names, the differences, and whether it is over.
+/// Where the walk stands: our side, what was reached, the line that was read, its number and what stands behind it, how many
+/// sessions the first line names, and the differences.
 #[derive(Clone, Copy)]
-struct Walk {
+struct Walk<'a> {
     seat: Seat,
-    first: u64,
     reached: Reached,
     asks: Line,
     line: u64,
-    next: usize,
+    rest: &'a [u8],
     named: u64,
     differences: u64,
-    over: bool,
 }
 
-impl Walk {
-    /// After the first line.
-    fn start(l: Line, next: usize) -> Walk {
-        let seat = calls::nobody();
-        let reached = Reached::none();
-        Walk {
-            seat,
-            first: 0,
-            reached,
-            asks: l,
-            line: 1,
-            next,
-            named: l.words[0],
-            differences: 0,
-            over: false,
-        }
-    }
-
+impl Walk<'_> {
     /// One difference more.
-    fn differs(mut self) -> Walk
-        ensures { result.differences ≡ one_more self.differences }
+    fn differs(&mut self)
+        ensures { self.new.differences ≡ one_more self.old.differences }
     {
-        self.differences = std::num::wrapping_add_u64(self.differences, 1);
-        self
+        self.differences = self.differences.wrapping_add(1);
     }
 
-    /// Which session and which line.
-    fn place(self, rt: &impl Print) -> io::Result<()> {
-        text(rt, b"session ")?;
-        number(rt, self.reached.sessions)?;
-        text(rt, b", line ")?;
-        number(rt, self.line)
+    /// Says something of the line that was read.
+    fn say(&self, rt: &impl Print, what: impl fmt::Display + Drop) -> io::Result<()> {
+        let session = self.reached.sessions;
+        let line = self.line;
+        println!(rt; "session {session}, line {line}: {what}")
     }
 
     /// A line that is none of the list's ends the walk.
-    fn unreadable(mut self, rt: &impl Print) -> io::Result<Walk> {
-        self.place(rt)?;
-        text(rt, b": no line of the list\n")?;
-        self.over = true;
-        Ok(self.differs())
+    fn unreadable(&mut self, rt: &impl Print) -> io::Result<()> {
+        self.differs();
+        self.say(rt, "no line of the list")
     }
 
     /// The last line: as many sessions as the first line names, and nothing behind it.
-    fn ended(mut self, rt: &impl Print, size: usize) -> io::Result<Walk> {
-        self.over = true;
-        if (self.reached.sessions == self.named) & (self.next == size) {
-            return Ok(self);
+    fn ended(&mut self, rt: &impl Print) -> io::Result<()> {
+        if self.reached.sessions == self.named && self.rest.is_empty() {
+            return Ok(());
         }
-        self.place(rt)?;
-        text(rt, b": not the end that the first line names\n")?;
-        Ok(self.differs())
+        self.differs();
+        self.say(rt, "not the end that the first line names")
     }
 
-    /// The next line: a call, or the end.
-    fn read(mut self, rt: &impl Print, text: &[u8]) -> io::Result<Walk> {
-        let r = lines::at(text, self.next);
-        let l = r.line;
-        self.asks = l;
-        self.next = r.next;
-        self.line = std::num::wrapping_add_u64(self.line, 1);
+    /// The call of the next line; none where the walk is over.
+    fn read(&mut self, rt: &impl Print) -> io::Result<Option<Call>> {
+        let (line, rest) = lines::first(self.rest);
+        self.rest = rest;
+        self.line = self.line.wrapping_add(1);
+        let Some(l) = line else {
+            self.unreadable(rt)?;
+            return Ok(None);
+        };
         if l.is_only(0) {
-            return self.ended(rt, text.len());
+            self.ended(rt)?;
+            return Ok(None);
         }
-        if asked::is_call(l) {
-            return Ok(self);
+        self.asks = l;
+        let call = Call::of(l);
+        if call.is_none() {
+            self.unreadable(rt)?;
+        }
+        Ok(call)
+    }
+
+    /// A call is over: our numbers are the Rust's, or they differ, and our side stands as the call left it.
+    fn called(&mut self, told: Told)
+        ensures { self.new.differences ≡ counted self.old.asks told.ours self.old.differences }
+    {
+        let ours = told.ours;
+        self.seat = told.seat;
+        if !self.asks.same(ours) {
+            self.differs();
+        }
+    }
+
+    /// Does what a call asks, and tells the difference that it makes, as long as they are told.
+    fn turn(&mut self, rt: &impl Print, call: Call, stores: &mut Stores) -> io::Result<()> {
+        let already = self.differences;
+        let before = Moment::of(self.seat.session, &stores.queue);
+        let told = stores.call(self.seat, call, self.asks.first(call.asks()));
+        let after = Moment::of(told.seat.session, &stores.queue);
+        let ours = told.ours.unwrap_or(Line::none());
+        self.reached.by(call, ours, before, after);
+        self.called(told);
+        if self.differences == already || already >= TOLD {
+            return Ok(());
+        }
+        let asks = call.asks();
+        let theirs = self.asks;
+        let rust = theirs.from(asks);
+        let we = ours.from(asks);
+        self.say(rt, format_args!("the Rust{rust}; we{we}"))
+    }
+
+    /// Every line after the first.
+    fn all(&mut self, rt: &impl Print) -> io::Result<()> {
+        let mut stores = Stores::empty();
+        for _ in 0..MOST {
+            match self.read(rt)? {
+                Some(call) => self.turn(rt, call, &mut stores)?,
+                None => return Ok(()),
+            }
         }
         self.unreadable(rt)
     }
-
-    /// A call is over: our side stands as it left it.
-    fn called(mut self, told: Told, first: u64) -> Walk
-        ensures { result.differences ≡ counted self.asks told.ours self.differences }
-    {
-        let was = self.reached;
-        let old = self.seat;
-        let seat = told.seat;
-        let ours = told.ours;
-        let reached = was.by(ours, old.session, self.first, seat.session, first);
-        self.reached = reached;
-        self.seat = seat;
-        self.first = first;
-        self.compared(ours)
-    }
-
-    /// Our numbers are the Rust's, or they differ.
-    fn compared(self, ours: Line) -> Walk
-        ensures { result.differences ≡ counted self.asks ours self.differences }
-    {
-        let rust = self.asks;
-        if lines::same(rust, ours) {
-            return self;
-        }
-        self.differs()
-    }
-
-    /// Where there were fewer differences before the call, tells the one that it made, as long as they are told.
-    fn tell(self, rt: &impl Print, ours: Line, before: u64) -> io::Result<()> {
-        if (self.differences == before) | (before >= TOLD) {
-            return Ok(());
-        }
-        self.place(rt)?;
-        both(rt, self.asks, ours)
-    }
 }
 
-/// What the Rust said and what we have.
-fn both(rt: &impl Print, rust: Line, ours: Line) -> io::Result<()> {
-    let asks = asked::asks(rust.words[0]);
-    text(rt, b": the Rust")?;
-    from(rt, rust, asks)?;
-    text(rt, b"; we")?;
-    from(rt, ours, asks)?;
-    text(rt, b"\n")
-}
-
-/// A call that changes no store.
-fn look(seat: Seat, queue: &[u64; WORDS], capture: &[u64; WORDS], l: Line) -> Told {
-    let call = l.words[0];
-    if call == asked::RETIRE {
-        return calls::retire(seat, queue, capture, l);
+/// Walks through a list. Its first line has the number of sessions.
+pub fn list(rt: &impl Print, text: &[u8]) -> io::Result<()> {
+    if text.len() > MOST {
+        return print!(rt; "the list is too long\ndifferences: 1\n");
     }
-    if call == asked::START {
-        return calls::start_capture(seat, queue, capture, l);
+    let (line, rest) = lines::first(text);
+    let asks = line.unwrap_or(Line::none());
+    let named = asks.words[0];
+    let mut walk = Walk {
+        seat: calls::nobody(),
+        reached: Reached::NONE,
+        asks,
+        line: 1,
+        rest,
+        named,
+        differences: 0,
+    };
+    if asks.is_only(named) {
+        walk.all(rt)?;
+    } else {
+        walk.unreadable(rt)?;
     }
-    if call == asked::SNAPSHOT {
-        return calls::snapshot(seat, queue, capture, l);
-    }
-    calls::apply(seat, queue, capture, l)
-}
-
-/// A call that is lent the pool.
-fn sound(
-    seat: Seat,
-    queue: &[u64; WORDS],
-    capture: &[u64; WORDS],
-    pool: &mut [f32; SAMPLES],
-    l: Line,
-) -> Told {
-    let call = l.words[0];
-    if call == asked::OPEN {
-        return calls::open(queue, capture, pool, l);
-    }
-    if call == asked::LOAD {
-        return calls::load(seat, queue, capture, pool, l);
-    }
-    calls::block(seat, queue, capture, pool, l)
-}
-
-/// A call that is not.
-fn plan(
-    seat: Seat,
-    queue: &mut [u64; WORDS],
-    capture: &mut [u64; WORDS],
-    list: &mut [u64; WORDS],
-    l: Line,
-) -> Told {
-    let call = l.words[0];
-    if call == asked::SUBMIT {
-        return calls::submit(seat, queue, capture, l);
-    }
-    if call == asked::TRANSITION {
-        return calls::transition(seat, queue, capture, l);
-    }
-    if call == asked::STOP {
-        return calls::stop_capture(seat, queue, capture, list, l);
-    }
-    if call == asked::REPLAY {
-        return calls::replay(seat, queue, capture, list, l);
-    }
-    look(seat, queue, capture, l)
-}
-
-/// The call that a line asks for.
-fn call(
-    seat: Seat,
-    queue: &mut [u64; WORDS],
-    capture: &mut [u64; WORDS],
-    list: &mut [u64; WORDS],
-    pool: &mut [f32; SAMPLES],
-    l: Line,
-) -> Told {
-    if asked::takes_pool(l) {
-        return sound(seat, queue, capture, pool, l);
-    }
-    plan(seat, queue, capture, list, l)
-}
-
-/// One line.
-fn turn(
-    rt: &impl Print,
-    w: Walk,
-    text: &[u8],
-    queue: &mut [u64; WORDS],
-    capture: &mut [u64; WORDS],
-    list: &mut [u64; WORDS],
-    pool: &mut [f32; SAMPLES],
-) -> io::Result<Walk> {
-    let here = w.read(rt, text)?;
-    if here.over {
-        return Ok(here);
-    }
-    let seat = here.seat;
-    let l = here.asks;
-    let told = call(seat, queue, capture, list, pool, l);
-    let first = reach::first(told.seat.session, queue);
-    let after = here.called(told, first);
-    after.tell(rt, told.ours, here.differences)?;
-    Ok(after)
-}
-
-/// Every line after the first.
-fn rest(rt: &impl Print, w: Walk, text: &[u8]) -> io::Result<Walk> {
-    let mut queue = [0; WORDS];
-    let mut capture = [0; WORDS];
-    let mut list = [0; WORDS];
-    let mut pool = [0.0; SAMPLES];
-    let mut w = w;
-    let mut turns = MOST;
-    while turns > 0 {
-        w = turn(rt, w, text, &mut queue, &mut capture, &mut list, &mut pool)?;
-        if w.over {
-            return Ok(w);
-        }
-        turns -= 1;
-    }
-    w.unreadable(rt)
-}
-
-/// The first line has the number of sessions.
-fn all(rt: &impl Print, text: &[u8]) -> io::Result<Walk> {
-    let r = lines::at(text, 0);
-    let l = r.line;
-    let w = Walk::start(l, r.next);
-    if l.is_only(l.words[0]) {
-        return rest(rt, w, text);
-    }
-    w.unreadable(rt)
-}
-
-/// The list is the first `count` of these bytes.
-pub fn list(rt: &impl Print, bytes: &[u8; ROOM], count: usize) -> io::Result<()> {
-    if count > MOST {
-        return text(rt, b"the list is too long\ndifferences: 1\n");
-    }
-    let whole: &[u8] = bytes;
-    let w = all(rt, &whole[..count])?;
-    let reached = w.reached;
-    reached.print(rt)?;
-    row(rt, b"differences", w.differences)
+    let reached = walk.reached;
+    let differences = walk.differences;
+    println!(rt; "{reached}differences: {differences}")
 }
