@@ -1,7 +1,7 @@
 //! A file is named by an argument and read whole, and what is wrong with one is said in one line on standard error.
 #![tactic(auto)]
 
-ghost use Rattle.std.specs.Prelude.{◌≤◌, IfOk, length};
+ghost use Rattle.std.specs.Prelude.{◌≤◌, IfOk, IfSome, length};
 
 use std::env::FillError;
 use std::fs::File;
@@ -12,20 +12,14 @@ use std::rt::Env;
 /// The program was started with an argument i.
 pub fn is_given(rt: &HostRuntime, i: usize) -> bool {
     let mut none = [0u8; 0];
-    match rt.arg(i, &mut none) {
-        Err(FillError::NotPresent) => false,
-        _ => true,
-    }
+    !matches!(rt.arg(i, &mut none), Err(FillError::NotPresent))
 }
 
 /// How many bytes of a store argument i takes; none where it is not there, or longer than the store.
 pub fn argument(rt: &HostRuntime, i: usize, name: &mut [u8]) -> usize
     ensures { result ≤ length name.new }
 {
-    match rt.arg(i, name) {
-        Ok(n) => n,
-        Err(_) => 0,
-    }
+    rt.arg(i, name).unwrap_or(0)
 }
 
 /// Writes to standard error; where that fails, there is nowhere left to say so.
@@ -46,10 +40,7 @@ pub fn wrong(rt: &HostRuntime, program: &[u8], name: &[u8], what: &[u8]) {
 fn why(rt: &HostRuntime, e: io::Error) {
     let mut store = Cursor::new([0u8; 256]);
     let _ = write!(store, "{e}");
-    let all = match str::from_utf8(store.get_ref()) {
-        Ok(words) => words,
-        Err(_) => "",
-    };
+    let all = str::from_utf8(store.get_ref()).unwrap_or("");
     let words = match all.split_once(" (os error ") {
         Some((words, _)) => words,
         None => all.trim_end_matches('\0'),
@@ -69,19 +60,6 @@ pub fn failed(rt: &HostRuntime, program: &[u8], what: &[u8], name: &[u8], e: io:
     text(rt, b"\n");
 }
 
-/// Whether a file was read, and how many bytes it has.
-#[derive(Clone, Copy)]
-pub struct Whole {
-    pub read: bool,
-    pub count: usize,
-}
-
-/// A file that was not read.
-const NONE: Whole = Whole {
-    read: false,
-    count: 0,
-};
-
 /// Reads to the front of a store until it is full or the file ends.
 pub fn fill(file: &mut File, bytes: &mut [u8]) -> io::Result<usize>
     ensures { IfOk result (λ n. n ≤ length bytes.new) }
@@ -99,10 +77,7 @@ pub fn fill(file: &mut File, bytes: &mut [u8]) -> io::Result<usize>
 
 /// The path of a file of this name. A name that is no text names none.
 pub fn path(name: &[u8]) -> io::Result<&str> {
-    match str::from_utf8(name) {
-        Ok(path) => Ok(path),
-        Err(_) => Err(io::Error::from(io::ErrorKind::InvalidFilename)),
-    }
+    str::from_utf8(name).map_err(|_| io::Error::from(io::ErrorKind::InvalidFilename))
 }
 
 /// Opens a file to read it.
@@ -110,69 +85,43 @@ pub fn open(rt: &HostRuntime, name: &[u8]) -> io::Result<File> {
     File::open(rt, path(name)?)
 }
 
-/// Nothing follows the bytes that were read; if something does, or a read fails, it is said.
-fn is_over(
-    rt: &HostRuntime,
-    program: &[u8],
-    name: &[u8],
-    file: &mut File,
-    full: bool,
-    long: &[u8],
-) -> bool {
-    if !full {
-        return true;
-    }
-    let mut more = [0u8; 1];
-    match file.read(&mut more) {
-        Ok(0) => true,
-        Ok(_) => {
-            wrong(rt, program, name, long);
-            false
-        }
-        Err(e) => {
-            failed(rt, program, b"read", name, e);
-            false
-        }
-    }
+/// Why a file is not read whole.
+#[derive(Drop)]
+enum Unread {
+    Open(io::Error),
+    Read(io::Error),
+    Long,
 }
 
-/// Reads an open file whole.
-fn read_open(
+/// Reads a file to the front of a store: how many bytes it has, if nothing follows them.
+fn whole(rt: &HostRuntime, name: &[u8], bytes: &mut [u8]) -> Result<usize, Unread>
+    ensures { IfOk result (λ n. n ≤ length bytes.new) }
+{
+    let mut file = open(rt, name).map_err(Unread::Open)?;
+    let count = fill(&mut file, bytes).map_err(Unread::Read)?;
+    let mut more = [0u8; 1];
+    if count == bytes.len() && file.read(&mut more).map_err(Unread::Read)? > 0 {
+        return Err(Unread::Long);
+    }
+    Ok(count)
+}
+
+/// How many bytes a file has, read whole to the front of a store; if it is not read, it is said why. `long` says that it has
+/// more bytes than the store.
+pub fn read(
     rt: &HostRuntime,
     program: &[u8],
     name: &[u8],
-    file: &mut File,
     bytes: &mut [u8],
     long: &[u8],
-) -> Whole
-    ensures { result.count ≤ length bytes.new }
+) -> Option<usize>
+    ensures { IfSome result (λ n. n ≤ length bytes.new) }
 {
-    match fill(file, bytes) {
-        Ok(count) => {
-            let full = count == bytes.len();
-            let read = is_over(rt, program, name, file, full, long);
-            Whole { read, count }
-        }
-        Err(e) => {
-            failed(rt, program, b"read", name, e);
-            NONE
-        }
+    match whole(rt, name, bytes) {
+        Ok(count) => return Some(count),
+        Err(Unread::Open(e)) => failed(rt, program, b"open", name, e),
+        Err(Unread::Read(e)) => failed(rt, program, b"read", name, e),
+        Err(Unread::Long) => wrong(rt, program, name, long),
     }
-}
-
-/// Reads a file whole to the front of a store; if it is not read, it is said why. `long` says that it has more bytes than
-/// the store.
-pub fn read(rt: &HostRuntime, program: &[u8], name: &[u8], bytes: &mut [u8], long: &[u8]) -> Whole
-    ensures { result.count ≤ length bytes.new }
-{
-    match open(rt, name) {
-        Ok(file) => {
-            let mut file = file;
-            read_open(rt, program, name, &mut file, bytes, long)
-        }
-        Err(e) => {
-            failed(rt, program, b"open", name, e);
-            NONE
-        }
-    }
+    None
 }

@@ -1,98 +1,42 @@
 //! The block lengths: numbers, or `675000x512` for many of one length.
-use crate::scan::{Flaw, Scan, Word};
+use crate::scan;
+use crate::scan::{Flaw, Wrong};
 
 /// The words of so many pairs as 65,536 bytes have at most.
 pub const PAIRS: usize = 65536;
 
-/// How far the lengths are read: how many words of pairs there are, and what is wrong with the last one.
-#[derive(Clone, Copy)]
-pub struct Blocks {
-    pub scan: Scan,
-    pub words: usize,
-    pub flaw: Flaw,
+/// How many blocks of one length a word says.
+fn pair(word: &[u8], place: u64) -> Result<[u64; 2], Flaw> {
+    let Some(x) = word.iter().position(|b| *b == b'x') else {
+        return Ok([1, scan::number(word, place)?]);
+    };
+    let times = scan::digits(&word[..x], place)?;
+    let long = scan::digits(&word[x + 1..], place)?;
+    Ok([scan::value(times, place)?, scan::value(long, place)?])
 }
 
-/// Writes a pair: how many blocks, and how long each is.
-fn keep(pairs: &mut [u64; PAIRS], words: usize, times: u64, long: u64) -> usize {
-    if words > 65534 {
-        return words;
+/// Writes a line's pairs behind so many words of pairs, and answers how many there are then.
+fn line(text: &[u8], pairs: &mut [u64; PAIRS], before: usize) -> Result<usize, Flaw> {
+    let mut words = before;
+    let each = scan::stripped(text).split(scan::is_blank);
+    for (place, word) in (1u64..).zip(each.filter(|word| !word.is_empty())) {
+        let pair = pair(word, place)?;
+        if words < PAIRS - 1 {
+            pairs[words..words + 2].copy_from_slice(&pair);
+            words += 2;
+        }
     }
-    pairs[words] = times;
-    pairs[words + 1] = long;
-    words + 2
+    Ok(words)
 }
 
-impl Blocks {
-    /// Before the first byte.
-    fn start() -> Blocks {
-        Blocks {
-            scan: Scan::start(),
-            words: 0,
-            flaw: Flaw::None,
-        }
+/// Reads the block lengths of a text, and answers how many words of pairs they are.
+pub fn read(text: &[u8], pairs: &mut [u64; PAIRS]) -> Result<usize, Wrong> {
+    let mut words = 0;
+    for (number, text) in (1u64..).zip(text.split(scan::is_end)) {
+        words = match line(text, pairs, words) {
+            Ok(words) => words,
+            Err(flaw) => return Err(Wrong { line: number, flaw }),
+        };
     }
-
-    /// With something wrong.
-    fn flawed(self, flaw: Flaw) -> Blocks {
-        let scan = self.scan;
-        Blocks {
-            scan,
-            words: self.words,
-            flaw,
-        }
-    }
-
-    /// A length, or many of one length.
-    fn pair(mut self, pairs: &mut [u64; PAIRS], w: Word) -> Blocks {
-        if !w.is_counted() {
-            return self.flawed(Flaw::NotNumber);
-        }
-        if w.large {
-            return self.flawed(Flaw::Large);
-        }
-        self.words = keep(pairs, self.words, w.times, w.number);
-        self
-    }
-
-    /// The last word, if it ended with the last byte.
-    fn word(self, pairs: &mut [u64; PAIRS]) -> Blocks {
-        let scan = self.scan;
-        if !scan.ended {
-            return self;
-        }
-        let w = scan.word;
-        self.pair(pairs, w)
-    }
-
-    /// How many words of pairs count: none where something is wrong, so that what is wrong with list or tour is said first.
-    pub fn kept(self) -> usize {
-        let flaw = self.flaw;
-        if flaw.is_none() {
-            return self.words;
-        }
-        0
-    }
-
-    /// A byte on, as long as nothing is wrong.
-    fn next(mut self, pairs: &mut [u64; PAIRS], b: u8) -> Blocks {
-        let flaw = self.flaw;
-        if !flaw.is_none() {
-            return self;
-        }
-        let scan = self.scan;
-        let on = scan.next(b);
-        self.scan = on;
-        self.word(pairs)
-    }
-}
-
-/// Reads a text as far as it has block lengths.
-pub fn read(text: &[u8], pairs: &mut [u64; PAIRS]) -> Blocks {
-    let mut s = Blocks::start();
-    let mut i: usize = 0;
-    while i < text.len() {
-        s = s.next(pairs, text[i]);
-        i += 1;
-    }
-    s.next(pairs, b'\n')
+    Ok(words)
 }

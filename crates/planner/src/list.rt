@@ -1,261 +1,134 @@
 //! The clip list: `clips 1 as-tono` or `clips 1 house`, then a line for each clip, `SLOT SERIAL song RATE FRAMES LENGTH` or
 //! `SLOT SERIAL stinger RATE FRAMES`. A sixth word of a stinger's line is a number too, and means nothing.
-use crate::scan::{Flaw, Scan, Word};
+ghost use Rattle.std.specs.Prelude.{◌≤◌};
+
+use crate::scan;
+use crate::scan::{Flaw, Wrong};
 use stage::{AS_TONO, HOUSE};
 
 /// The clips that are kept, one more than there are slots: among so many a slot is named twice, or is none.
 pub const CLIPS: usize = 33;
 
-/// The words of so many clips: slot, serial, kind, rate, frames and length.
-pub const WORDS: usize = 198;
+/// A clip's words: slot, serial, kind, rate, frames and length.
+pub type Clip = [u64; 6];
 
-/// `clips` by its bytes.
-const HEAD_WORD: u64 = 0x63_6c69_7073;
+/// The kind of a song.
+pub const SONG: u64 = 1;
 
-/// `as-tono` by its bytes.
-const AS_TONO_WORD: u64 = 0x61_732d_746f_6e6f;
+/// The kind of a stinger.
+const STINGER: u64 = 2;
 
-/// `house` by its bytes.
-const HOUSE_WORD: u64 = 0x68_6f75_7365;
-
-/// `song` by its bytes.
-const SONG_WORD: u64 = 0x736f_6e67;
-
-/// `stinger` by its bytes.
-const STINGER_WORD: u64 = 0x73_7469_6e67_6572;
-
-/// How far a list is read: the mode, whether the head is, whether this line's clip is a song, how many clips there are, and
-/// what is wrong with the last line.
-#[derive(Clone, Copy)]
+/// A list: the mode, and its clips, each with its line. The clips' words are lent as one slice, so the lines stand beside them.
+#[derive(Drop)]
 pub struct List {
-    pub scan: Scan,
     pub mode: u32,
-    pub headed: bool,
-    pub song: bool,
+    pub clips: [Clip; CLIPS],
+    pub lines: [u64; CLIPS],
     pub count: usize,
-    pub flaw: Flaw,
-}
-
-/// Writes a word of clip i, the place from 1 to 6.
-fn keep(clips: &mut [u64; WORDS], i: usize, place: u64, x: u64) {
-    if i >= CLIPS {
-        return;
-    }
-    if place == 0 {
-        return;
-    }
-    if place > 6 {
-        return;
-    }
-    clips[i * 6 + (place as usize) - 1] = x;
-}
-
-/// Writes the line of clip i.
-fn keep_line(lines: &mut [u64; CLIPS], i: usize, x: u64) {
-    if i >= CLIPS {
-        return;
-    }
-    lines[i] = x;
+    ghost counted: { count ≤ 33 },
 }
 
 impl List {
-    /// Before the first byte.
-    fn start() -> List {
-        List {
-            scan: Scan::start(),
-            mode: AS_TONO,
-            headed: false,
-            song: false,
-            count: 0,
-            flaw: Flaw::None,
-        }
+    /// The clips.
+    pub fn clips(&self) -> &[Clip] {
+        &self.clips[..self.count]
     }
 
-    /// With something wrong.
-    fn flawed(self, flaw: Flaw) -> List {
-        let scan = self.scan;
-        List {
-            scan,
-            mode: self.mode,
-            headed: self.headed,
-            song: self.song,
-            count: self.count,
-            flaw,
-        }
-    }
-
-    /// A head's second word.
-    fn version(self, w: Word) -> List {
-        if w.is_number() & (w.number == 1) & !w.large {
-            return self;
-        }
-        self.flawed(Flaw::Version)
-    }
-
-    /// A head's third word.
-    fn mode(mut self, w: Word) -> List {
-        if w.is(7, AS_TONO_WORD) {
-            self.mode = AS_TONO;
-            return self;
-        }
-        if w.is(5, HOUSE_WORD) {
-            self.mode = HOUSE;
-            return self;
-        }
-        self.flawed(Flaw::Mode)
-    }
-
-    /// A word of the head.
-    fn head_word(self, w: Word, place: u64) -> List {
-        if place == 1 {
-            if w.is(5, HEAD_WORD) {
-                return self;
-            }
-            return self.flawed(Flaw::NoHead);
-        }
-        if place == 2 {
-            return self.version(w);
-        }
-        if place == 3 {
-            return self.mode(w);
-        }
-        self.flawed(Flaw::TooMany)
-    }
-
-    /// A clip's kind.
-    fn kind(mut self, clips: &mut [u64; WORDS], w: Word) -> List {
-        if w.is(4, SONG_WORD) {
-            keep(clips, self.count, 3, 1);
-            self.song = true;
-            return self;
-        }
-        if w.is(7, STINGER_WORD) {
-            keep(clips, self.count, 3, 2);
-            self.song = false;
-            return self;
-        }
-        self.flawed(Flaw::Kind)
-    }
-
-    /// A clip's number.
-    fn number(self, clips: &mut [u64; WORDS], w: Word, place: u64) -> List {
-        if !w.is_number() {
-            return self.flawed(Flaw::NotNumber);
-        }
-        if w.large {
-            return self.flawed(Flaw::Large);
-        }
-        keep(clips, self.count, place, w.number);
-        self
-    }
-
-    /// A word of a clip's line.
-    fn clip_word(self, clips: &mut [u64; WORDS], w: Word, place: u64) -> List {
-        if place > 6 {
-            return self.flawed(Flaw::TooMany);
-        }
-        if place == 3 {
-            return self.kind(clips, w);
-        }
-        self.number(clips, w, place)
-    }
-
-    /// The last word, if it ended with the last byte.
-    fn word(self, clips: &mut [u64; WORDS]) -> List {
-        let scan = self.scan;
-        if !scan.ended {
-            return self;
-        }
-        let w = scan.word;
-        if self.headed {
-            return self.clip_word(clips, w, scan.place);
-        }
-        self.head_word(w, scan.place)
-    }
-
-    /// A line of so many words is over.
-    fn line(mut self, lines: &mut [u64; CLIPS], line: u64, words: u64) -> List {
-        if words == 0 {
-            return self;
-        }
-        if !self.headed {
-            self.headed = true;
-            if words < 3 {
-                return self.flawed(Flaw::TooFew);
-            }
-            return self;
-        }
-        if (words < 5) | ((words == 5) & self.song) {
-            return self.flawed(Flaw::TooFew);
-        }
+    /// Adds a clip, if it is kept.
+    fn push(&mut self, clip: &Clip, line: u64) {
         if self.count < CLIPS {
-            keep_line(lines, self.count, line);
-            self.count = self.count + 1;
-            return self;
+            self.clips[self.count] = *clip;
+            self.lines[self.count] = line;
+            self.count += 1;
         }
-        self
-    }
-
-    /// The last line, if it ended with the last byte and nothing is wrong with it.
-    fn ended(self, lines: &mut [u64; CLIPS]) -> List {
-        let scan = self.scan;
-        let flaw = self.flaw;
-        if scan.over & flaw.is_none() {
-            return self.line(lines, scan.line, scan.place);
-        }
-        self
-    }
-
-    /// A byte on, as long as nothing is wrong.
-    fn next(mut self, clips: &mut [u64; WORDS], lines: &mut [u64; CLIPS], b: u8) -> List {
-        let flaw = self.flaw;
-        if !flaw.is_none() {
-            return self;
-        }
-        let scan = self.scan;
-        let on = scan.next(b);
-        self.scan = on;
-        let l = self.word(clips);
-        l.ended(lines)
-    }
-
-    /// At the end of the text, where the head must have been.
-    fn whole(self) -> List {
-        let flaw = self.flaw;
-        if flaw.is_none() & !self.headed {
-            return self.flawed(Flaw::NoHead);
-        }
-        self
     }
 }
 
-/// Reads a text as far as it is a list: each clip's words, and its line.
-pub fn read(text: &[u8], clips: &mut [u64; WORDS], lines: &mut [u64; CLIPS]) -> List {
-    let mut l = List::start();
-    let mut i: usize = 0;
-    while i < text.len() {
-        l = l.next(clips, lines, text[i]);
-        i += 1;
+/// The mode that the head's words say.
+fn head(text: &[u8]) -> Result<u32, Flaw> {
+    let each = scan::stripped(text).split(scan::is_blank);
+    let mut mode = None;
+    for (place, word) in (1u64..).zip(each.filter(|word| !word.is_empty())) {
+        match (place, word) {
+            (1, b"clips") => {}
+            (1, _) => return Err(Flaw::NoHead),
+            (2, _) if matches!(scan::number(word, place), Ok(1)) => {}
+            (2, _) => return Err(Flaw::Version),
+            (3, b"as-tono") => mode = Some(AS_TONO),
+            (3, b"house") => mode = Some(HOUSE),
+            (3, _) => return Err(Flaw::Mode),
+            _ => return Err(Flaw::TooMany),
+        }
     }
-    let l = l.next(clips, lines, b'\n');
-    l.whole()
+    mode.ok_or(Flaw::TooFew)
 }
 
-/// A word of clip i, the place from 0 to 5.
-pub fn cell(clips: &[u64; WORDS], i: usize, place: usize) -> u64 {
-    if i >= CLIPS {
-        return 0;
+/// The kind that a word says.
+fn kind(word: &[u8]) -> Result<u64, Flaw> {
+    match word {
+        b"song" => Ok(SONG),
+        b"stinger" => Ok(STINGER),
+        _ => Err(Flaw::Kind),
     }
-    if place > 5 {
-        return 0;
-    }
-    clips[i * 6 + place]
 }
 
-/// The line of clip i.
-pub fn line_of(lines: &[u64; CLIPS], i: usize) -> u64 {
-    if i >= CLIPS {
-        return 0;
+/// The clip that a line's words say.
+fn clip(text: &[u8]) -> Result<Clip, Flaw> {
+    let each = scan::stripped(text).split(scan::is_blank);
+    let mut clip = [0; 6];
+    let mut words = 0;
+    for (place, word) in (1u64..).zip(each.filter(|word| !word.is_empty())) {
+        if words > 5 {
+            return Err(Flaw::TooMany);
+        }
+        clip[words] = if place == 3 {
+            kind(word)?
+        } else {
+            scan::number(word, place)?
+        };
+        words += 1;
     }
-    lines[i]
+    if words < 5 || words == 5 && clip[2] == SONG {
+        return Err(Flaw::TooFew);
+    }
+    Ok(clip)
+}
+
+/// A line has no word.
+fn is_empty(text: &[u8]) -> bool {
+    scan::stripped(text).iter().all(scan::is_blank)
+}
+
+/// What is wrong with a line of a text of which so much is read.
+fn line(list: &mut Option<List>, text: &[u8], line: u64) -> Result<(), Flaw> {
+    match list {
+        Some(list) => list.push(&clip(text)?, line),
+        None => {
+            *list = Some(List {
+                mode: head(text)?,
+                clips: [[0; 6]; CLIPS],
+                lines: [0; CLIPS],
+                count: 0,
+            });
+        }
+    }
+    Ok(())
+}
+
+/// Reads a text as a list.
+pub fn read(text: &[u8]) -> Result<List, Wrong> {
+    let mut list = None;
+    let mut last = 1;
+    for (number, text) in (1u64..).zip(text.split(scan::is_end)) {
+        last = number;
+        if !is_empty(text) {
+            if let Err(flaw) = line(&mut list, text, number) {
+                return Err(Wrong { line: number, flaw });
+            }
+        }
+    }
+    list.ok_or(Wrong {
+        line: last,
+        flaw: Flaw::NoHead,
+    })
 }

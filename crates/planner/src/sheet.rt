@@ -1,12 +1,15 @@
 //! The sheet: the clips, the records that are not taken and why, each executed command, and where the song then stands. A
 //! column is as wide as its longest number.
-use crate::line::ROOM;
-use crate::list::WORDS;
-use crate::{line, list, words};
+ghost use Rattle.std.specs.Prelude.{◌<◌};
+
+use crate::list::{Clip, List, SONG};
+use crate::words;
+use crate::words::{Command, Grouped, Text, Time, width};
 use dryrun::DryDone;
-use leaps::{Dry, Run};
-use std::io;
-use transport::{LoopRange, Transport, TransportState};
+use leaps::Dry;
+use stage::HOUSE;
+use std::{fmt, io};
+use transport::TransportState;
 
 /// The words of 256 records, five each.
 pub const RECORDS: usize = 1280;
@@ -18,567 +21,254 @@ pub const REASONS: usize = 256;
 /// laps before and after.
 pub const ROWS: usize = 2560;
 
-/// Ends a line and writes it.
-fn end(rt: &impl Print, line: &mut [u8; ROOM], n: usize) -> io::Result<()> {
-    line::end(rt, line, n)
-}
+/// A record's words: frame, number, kind, and the command's two.
+type Record = [u64; 5];
 
-/// The larger of two.
-fn larger(a: usize, b: usize) -> usize {
-    if a < b {
-        return b;
+/// A row's words.
+type Row = [u64; 10];
+
+/// The widest of a word of some lines, at least so wide.
+fn widest<const N: usize>(lines: &[[u64; N]], word: usize, least: usize) -> usize
+    requires { word < N }
+{
+    let mut most = least;
+    for line in lines {
+        most = most.max(width(Grouped(line[word])));
     }
-    a
+    most
 }
 
 // ---- the head
 
 /// Mode, rate and how long the dry run is.
 fn head(rt: &impl Print, mode: u32, rate: u64, frames: u64) -> io::Result<()> {
-    let mut line = [0u8; ROOM];
-    let n = line::words(
-        &mut line,
-        0,
-        b"dry run, as tono, @ frames a second, % frames = \n\
-          dry run, house, @ frames a second, % frames = ",
-        mode as u64,
+    let mode = if mode == HOUSE { "house" } else { "as tono" };
+    let time = Time {
+        frame: frames,
         rate,
-        frames,
-    );
-    let n = words::time(&mut line, n, frames, rate);
-    end(rt, &mut line, n)
+    };
+    let rate = Grouped(rate);
+    let frames = Grouped(frames);
+    println!(rt; "dry run, {mode}, {rate} frames a second, {frames} frames = {time}")
 }
 
 // ---- the clips
 
-/// How wide the columns of the clips are.
-#[derive(Clone, Copy)]
-struct ClipWidths {
-    serial: usize,
-    frames: usize,
-    long: usize,
-}
-
-/// The widest of a word of n clips.
-fn widest_clip(clips: &[u64; WORDS], n: usize, place: usize, least: usize) -> usize {
-    let mut w = least;
-    let mut i: usize = 0;
-    while i < n {
-        w = larger(w, line::width(list::cell(clips, i, place)));
-        i += 1;
-    }
-    w
-}
-
-/// The head of the clips' columns.
-fn clip_head(rt: &impl Print, w: ClipWidths) -> io::Result<()> {
-    let mut line = [0u8; ROOM];
-    let n = line::put(&mut line, 0, b"\nslot");
-    let n = line::head(&mut line, n, b"serial", w.serial);
-    let n = line::put(&mut line, n, b" kind     rate");
-    let n = line::head(&mut line, n, b"frames", w.frames);
-    let n = line::head(&mut line, n, b"length", w.long);
-    end(rt, &mut line, n)
-}
-
-/// The length of a song.
-fn clip_long(line: &mut [u8; ROOM], n: usize, kind: u64, long: u64, places: usize) -> usize {
-    if kind == 1 {
-        return line::next(line, n, long, places);
-    }
-    line::head(line, n, b"-", places)
-}
-
-/// Slot, serial and kind of clip i.
-fn clip_first(line: &mut [u8; ROOM], clips: &[u64; WORDS], i: usize, w: ClipWidths) -> usize {
-    let n = line::column(line, 0, list::cell(clips, i, 0), 4);
-    let n = line::next(line, n, list::cell(clips, i, 1), w.serial);
-    let kind = list::cell(clips, i, 2);
-    line::words(line, n, b"\n song    \n stinger ", kind, 0, 0)
-}
-
-/// Rate, frames and length of clip i.
-fn clip_last(
-    line: &mut [u8; ROOM],
-    n: usize,
-    clips: &[u64; WORDS],
-    i: usize,
-    w: ClipWidths,
-) -> usize {
-    let kind = list::cell(clips, i, 2);
-    let n = line::plain(line, n, list::cell(clips, i, 3), 6);
-    let n = line::next(line, n, list::cell(clips, i, 4), w.frames);
-    clip_long(line, n, kind, list::cell(clips, i, 5), w.long)
-}
-
-/// The line of clip i.
-fn clip(rt: &impl Print, clips: &[u64; WORDS], i: usize, w: ClipWidths) -> io::Result<()> {
-    let mut line = [0u8; ROOM];
-    let n = clip_first(&mut line, clips, i, w);
-    let n = clip_last(&mut line, n, clips, i, w);
-    end(rt, &mut line, n)
-}
-
-/// A line for each of n clips.
-fn clip_lines(rt: &impl Print, clips: &[u64; WORDS], n: usize, w: ClipWidths) -> io::Result<()> {
-    let mut i: usize = 0;
-    while i < n {
-        clip(rt, clips, i, w)?;
-        i += 1;
+/// A line for each clip.
+fn all_clips(rt: &impl Print, clips: &[Clip]) -> io::Result<()> {
+    let serials = widest(clips, 1, 6);
+    let frames = widest(clips, 4, 9);
+    let lengths = widest(clips, 5, 10);
+    println!(rt;
+        "\nslot {:>serials$} kind     rate {:>frames$} {:>lengths$}",
+        "serial", "frames", "length"
+    )?;
+    for clip in clips {
+        let [slot, serial, kind, rate, count, long] = *clip;
+        let slot = Grouped(slot);
+        let serial = Grouped(serial);
+        let count = Grouped(count);
+        let long = Text::of(Grouped(long));
+        let (kind, long) = if kind == SONG {
+            ("song", long.as_str())
+        } else {
+            ("stinger", "-")
+        };
+        println!(rt;
+            "{slot:>4} {serial:>serials$} {kind:<8}{rate:>6} {count:>frames$} {long:>lengths$}"
+        )?;
     }
     Ok(())
-}
-
-/// The first n clips.
-fn all_clips(rt: &impl Print, clips: &[u64; WORDS], n: usize) -> io::Result<()> {
-    let w = ClipWidths {
-        serial: widest_clip(clips, n, 1, 6),
-        frames: widest_clip(clips, n, 4, 9),
-        long: widest_clip(clips, n, 5, 10),
-    };
-    clip_head(rt, w)?;
-    clip_lines(rt, clips, n, w)
 }
 
 // ---- the records that are not taken
 
-/// Word k of record i.
-fn record_word(records: &[u64; RECORDS], i: usize, k: usize) -> u64 {
-    if i > 255 {
-        return 0;
-    }
-    if k > 4 {
-        return 0;
-    }
-    records[i * 5 + k]
-}
-
-/// Why record i is not taken; 0 if it is.
-fn reason(reasons: &[u64; REASONS], i: usize) -> u64 {
-    if i > 255 {
-        return 0;
-    }
-    reasons[i]
-}
-
 /// The rate of the clip in a slot.
-fn rate_of(clips: &[u64; WORDS], n: usize, slot: u64) -> u64 {
-    let mut i: usize = 0;
-    while i < n {
-        if list::cell(clips, i, 0) == slot {
-            return list::cell(clips, i, 3);
-        }
-        i += 1;
-    }
-    0
+fn rate_of(clips: &[Clip], slot: u64) -> u64 {
+    clips
+        .iter()
+        .find(|clip| clip[0] == slot)
+        .map_or(0, |clip| clip[3])
 }
 
 /// A gain that is refused is finite: it is a stinger's, and above 16.
 fn is_above(kind: u64, second: u64) -> bool {
-    (kind == 10) & (second % 0x8000_0000 < 0x7f80_0000)
+    kind == 10 && second % 0x8000_0000 < 0x7f80_0000
 }
 
-/// The row of a refusal's words; two of them have two.
-fn why_row(number: u64, kind: u64, second: u64) -> u64 {
-    if (number == 12) & (kind == 9) {
-        return 5;
-    }
-    if (number == 14) & is_above(kind, second) {
-        return 6;
-    }
-    match number {
-        12 => 0,
-        13 => 1,
-        14 => 2,
-        17 => 3,
-        22 => 4,
-        _ => 7,
-    }
-}
-
-/// A refusal's number, and what it says of a record.
-fn why(line: &mut [u8; ROOM], n: usize, number: u64, row: u64, rate: u64) -> usize {
-    line::words(
-        line,
-        n,
-        b"@, a song, not a stinger\n\
-          @, recorded at %\n\
-          @, gain not finite\n\
-          @, 16 stingers already: a replay at clock 0 holds no more\n\
-          @, start not below end\n\
-          @, a stinger, not a song\n\
-          @, stinger gain above 16\n\
-          @, not taken",
-        row,
-        number,
-        rate,
-    )
-}
-
-/// A record's place in the file, and its frame.
-fn record_head(line: &mut [u8; ROOM], i: usize, frame: u64) -> usize {
-    let place = std::num::wrapping_add_u64(i as u64, 1);
-    line::words(line, 0, b"  record @ for frame %: ", 0, place, frame)
-}
-
-/// The line of record i, which is not taken.
-fn skipped(
-    rt: &impl Print,
-    records: &[u64; RECORDS],
-    i: usize,
+/// Why a record is not taken: the refusal's number, the record's command, and the rate of the clip that it names.
+#[derive(Clone, Copy)]
+struct Reason {
     number: u64,
-    clips: &[u64; WORDS],
-    count: usize,
-) -> io::Result<()> {
-    let mut line = [0u8; ROOM];
-    let kind = record_word(records, i, 2);
-    let first = record_word(records, i, 3);
-    let second = record_word(records, i, 4);
-    let rate = rate_of(clips, count, words::slot(first));
-    let n = record_head(&mut line, i, record_word(records, i, 0));
-    let n = words::command(&mut line, n, kind, first, second);
-    let n = line::put(&mut line, n, b": ");
-    let n = why(&mut line, n, number, why_row(number, kind, second), rate);
-    end(rt, &mut line, n)
+    command: Command,
+    rate: u64,
 }
 
-/// The line of record i, if it is not taken.
-fn record(
-    rt: &impl Print,
-    records: &[u64; RECORDS],
-    i: usize,
-    reasons: &[u64; REASONS],
-    clips: &[u64; WORDS],
-    count: usize,
-) -> io::Result<()> {
-    let number = reason(reasons, i);
-    if number == 0 {
-        return Ok(());
+impl fmt::Display for Reason {
+    fn fmt<W: fmt::Write>(&self, f: &mut fmt::Formatter<W>) -> fmt::Result {
+        let Command { kind, second, .. } = self.command;
+        write!(f, "{}, ", Grouped(self.number))?;
+        match self.number {
+            12 if kind == 9 => f.write_str("a stinger, not a song"),
+            12 => f.write_str("a song, not a stinger"),
+            13 => write!(f, "recorded at {}", Grouped(self.rate)),
+            14 if is_above(kind, second) => f.write_str("stinger gain above 16"),
+            14 => f.write_str("gain not finite"),
+            17 => f.write_str("16 stingers already: a replay at clock 0 holds no more"),
+            22 => f.write_str("start not below end"),
+            _ => f.write_str("not taken"),
+        }
     }
-    skipped(rt, records, i, number, clips, count)
 }
 
-/// A line for each record of n that is not taken.
+/// How many records there are and how many are taken, and a line for each that is not.
 fn all_skipped(
     rt: &impl Print,
-    records: &[u64; RECORDS],
-    n: usize,
-    reasons: &[u64; REASONS],
-    clips: &[u64; WORDS],
-    count: usize,
+    clips: &[Clip],
+    records: &[Record],
+    reasons: &[u64],
+    d: DryDone,
 ) -> io::Result<()> {
-    let mut i: usize = 0;
-    while i < n {
-        record(rt, records, i, reasons, clips, count)?;
-        i += 1;
+    let all = Grouped(d.commands as u64);
+    let taken = Grouped(d.report.taken as u64);
+    let left = Grouped(d.commands.wrapping_sub(d.report.taken) as u64);
+    println!(rt; "\nrecords {all}, taken {taken}, skipped {left}")?;
+    let each = (1u64..).zip(records.iter().zip(reasons.iter()));
+    for (place, (record, number)) in each.take(d.commands) {
+        if *number != 0 {
+            let [frame, _, kind, first, second] = *record;
+            let place = Grouped(place);
+            let frame = Grouped(frame);
+            let command = Command {
+                kind,
+                first,
+                second,
+            };
+            let reason = Reason {
+                number: *number,
+                command,
+                rate: rate_of(clips, words::slot(first)),
+            };
+            println!(rt; "  record {place} for frame {frame}: {command}: {reason}")?;
+        }
     }
     Ok(())
 }
 
-/// How many records there are, and how many are taken.
-fn counts(rt: &impl Print, commands: usize, taken: usize) -> io::Result<()> {
-    let mut line = [0u8; ROOM];
-    let all = commands as u64;
-    let some = taken as u64;
-    let n = line::put(&mut line, 0, b"\n");
-    let n = line::words(&mut line, n, b"records @, taken %, skipped ", 0, all, some);
-    let n = line::number(&mut line, n, std::num::wrapping_sub_u64(all, some));
-    end(rt, &mut line, n)
-}
-
 // ---- the executed commands
 
-/// Word k of row i.
-fn row_word(rows: &[u64; ROWS], i: usize, k: usize) -> u64 {
-    if i > 255 {
-        return 0;
+/// The place in the file, from 1, of the record that is the k-th taken.
+fn place_of(reasons: &[u64], k: u64) -> Option<u64> {
+    let taken = (1u64..)
+        .zip(reasons.iter())
+        .filter(|(_, reason)| **reason == 0);
+    let (place, _) = taken.skip(k.checked_sub(1)? as usize).next()?;
+    Some(place)
+}
+
+/// The widest command of the rows.
+fn widest_command(rows: &[Row]) -> usize {
+    let mut most = 28;
+    for row in rows {
+        let [_, _, kind, first, second, ..] = *row;
+        most = most.max(width(Command {
+            kind,
+            first,
+            second,
+        }));
     }
-    if k > 9 {
-        return 0;
-    }
-    rows[i * 10 + k]
+    most
 }
 
-/// The place in the file, from 1, of the record that is the k-th taken of n.
-fn place_of(reasons: &[u64; REASONS], n: usize, k: u64) -> u64 {
-    let mut seen: u64 = 0;
-    let mut i: usize = 0;
-    while i < n {
-        seen = also_taken(reasons, i, seen);
-        i += 1;
-        if seen == k {
-            return i as u64;
-        }
-    }
-    0
-}
-
-/// With record i, if it is taken.
-fn also_taken(reasons: &[u64; REASONS], i: usize, seen: u64) -> u64 {
-    if reason(reasons, i) == 0 {
-        return std::num::wrapping_add_u64(seen, 1);
-    }
-    seen
-}
-
-/// The widest of a word of n rows.
-fn widest(rows: &[u64; ROWS], n: usize, k: usize, least: usize) -> usize {
-    let mut w = least;
-    let mut i: usize = 0;
-    while i < n {
-        w = larger(w, line::width(row_word(rows, i, k)));
-        i += 1;
-    }
-    w
-}
-
-/// How many places the command of row i takes.
-fn command_width(rows: &[u64; ROWS], i: usize) -> usize {
-    words::command_width(
-        row_word(rows, i, 2),
-        row_word(rows, i, 3),
-        row_word(rows, i, 4),
-    )
-}
-
-/// The widest command of n rows.
-fn widest_command(rows: &[u64; ROWS], n: usize) -> usize {
-    let mut w: usize = 28;
-    let mut i: usize = 0;
-    while i < n {
-        w = larger(w, command_width(rows, i));
-        i += 1;
-    }
-    w
-}
-
-/// How wide the columns of the rows are.
-#[derive(Clone, Copy)]
-struct Widths {
-    clock: usize,
-    time: usize,
-    command: usize,
-    from: usize,
-    to: usize,
-    laps: usize,
-    then: usize,
-}
-
-/// The widths of n rows, up to a clock.
-fn widths_of(rows: &[u64; ROWS], n: usize, clock: u64, rate: u64) -> Widths {
-    Widths {
-        clock: larger(13, line::width(clock)),
-        time: words::time_width(clock, rate),
-        command: widest_command(rows, n),
-        from: widest(rows, n, 6, 11),
-        to: widest(rows, n, 7, 11),
-        laps: widest(rows, n, 8, 5),
-        then: widest(rows, n, 9, 5),
-    }
-}
-
-/// The head of the columns up to the command.
-fn first_heads(line: &mut [u8; ROOM], w: Widths) -> usize {
-    let n = line::put(line, 0, b"\n");
-    let n = line::right(line, n, b"clock", w.clock);
-    let n = line::head(line, n, b"time", w.time);
-    let n = line::put(line, n, b" record ");
-    line::left(line, n, b"command", w.command)
-}
-
-/// The head of the other columns.
-fn last_heads(line: &mut [u8; ROOM], n: usize, w: Widths) -> usize {
-    let n = line::head(line, n, b"from", w.from);
-    let n = line::head(line, n, b"to", w.to);
-    let n = line::head(line, n, b"laps", w.laps);
-    line::head(line, n, b"then", w.then)
-}
-
-/// The head of the rows' columns.
-fn row_head(rt: &impl Print, w: Widths) -> io::Result<()> {
-    let mut line = [0u8; ROOM];
-    let n = first_heads(&mut line, w);
-    let n = last_heads(&mut line, n, w);
-    end(rt, &mut line, n)
-}
-
-/// Clock and time of a row.
-fn row_clock(line: &mut [u8; ROOM], clock: u64, rate: u64, w: Widths) -> usize {
-    let n = line::column(line, 0, clock, w.clock);
-    let n = line::put(line, n, b" ");
-    let n = line::blanks(line, n, words::time_width(clock, rate), w.time);
-    words::time(line, n, clock, rate)
-}
-
-/// The command of row i.
-fn row_command(line: &mut [u8; ROOM], n: usize, rows: &[u64; ROWS], i: usize, w: Widths) -> usize {
-    let kind = row_word(rows, i, 2);
-    let first = row_word(rows, i, 3);
-    let second = row_word(rows, i, 4);
-    let n = line::put(line, n, b" ");
-    let n = words::command(line, n, kind, first, second);
-    line::blanks(
-        line,
-        n,
-        words::command_width(kind, first, second),
-        w.command,
-    )
-}
-
-/// Positions and laps of row i.
-fn row_numbers(line: &mut [u8; ROOM], n: usize, rows: &[u64; ROWS], i: usize, w: Widths) -> usize {
-    let n = line::next(line, n, row_word(rows, i, 6), w.from);
-    let n = line::next(line, n, row_word(rows, i, 7), w.to);
-    let n = line::next(line, n, row_word(rows, i, 8), w.laps);
-    line::next(line, n, row_word(rows, i, 9), w.then)
-}
-
-/// Row i, of the record at a place of the file.
-fn row(
-    rt: &impl Print,
-    rows: &[u64; ROWS],
-    i: usize,
-    place: u64,
-    rate: u64,
-    w: Widths,
-) -> io::Result<()> {
-    let mut line = [0u8; ROOM];
-    let n = row_clock(&mut line, row_word(rows, i, 5), rate, w);
-    let n = line::next(&mut line, n, place, 6);
-    let n = row_command(&mut line, n, rows, i, w);
-    let n = row_numbers(&mut line, n, rows, i, w);
-    end(rt, &mut line, n)
-}
-
-/// The first n rows, of so many records.
-fn all_rows(
-    rt: &impl Print,
-    rows: &[u64; ROWS],
-    n: usize,
-    reasons: &[u64; REASONS],
-    commands: usize,
-    rate: u64,
-    w: Widths,
-) -> io::Result<()> {
-    let mut i: usize = 0;
-    while i < n {
-        let place = place_of(reasons, commands, row_word(rows, i, 1));
-        row(rt, rows, i, place, rate, w)?;
-        i += 1;
+/// The rows under their head, up to a clock.
+fn table(rt: &impl Print, rows: &[Row], reasons: &[u64], end: u64, rate: u64) -> io::Result<()> {
+    let clocks = width(Grouped(end)).max(13);
+    let times = width(Time { frame: end, rate });
+    let commands = widest_command(rows);
+    let froms = widest(rows, 6, 11);
+    let tos = widest(rows, 7, 11);
+    let laps = widest(rows, 8, 5);
+    let thens = widest(rows, 9, 5);
+    println!(rt;
+        "\n{:>clocks$} {:>times$} record {:<commands$} {:>froms$} {:>tos$} {:>laps$} {:>thens$}",
+        "clock", "time", "command", "from", "to", "laps", "then"
+    )?;
+    for row in rows {
+        let [_, number, kind, first, second, clock, from, to, lap, then] = *row;
+        let time = Text::of(Time { frame: clock, rate });
+        let time = time.as_str();
+        let clock = Grouped(clock);
+        let place = Grouped(place_of(reasons, number).unwrap_or(0));
+        let command = Text::of(Command {
+            kind,
+            first,
+            second,
+        });
+        let command = command.as_str();
+        let from = Grouped(from);
+        let to = Grouped(to);
+        let lap = Grouped(lap);
+        let then = Grouped(then);
+        println!(rt;
+            "{clock:>clocks$} {time:>times$} {place:>6} {command:<commands$} {from:>froms$} {to:>tos$} {lap:>laps$} {then:>thens$}"
+        )?;
     }
     Ok(())
 }
 
 // ---- the end
 
-/// The row of a state's name.
-fn state_row(s: TransportState) -> u64 {
-    match s {
-        TransportState::Stopped => 0,
-        TransportState::Playing => 1,
-        TransportState::Paused => 2,
-    }
-}
-
-/// A state, and where the song then stands.
-fn state_at(line: &mut [u8; ROOM], n: usize, s: TransportState, position: u64) -> usize {
-    line::words(
-        line,
-        n,
-        b"stopped at @, \nplaying at @, \npaused at @, ",
-        state_row(s),
-        position,
-        0,
-    )
-}
-
-/// A loop, and its laps.
-fn loop_laps(line: &mut [u8; ROOM], n: usize, start: u64, end: u64, laps: u64) -> usize {
-    let n = line::words(line, n, b"loop @ to %, laps ", 0, start, end);
-    line::number(line, n, laps)
-}
-
-/// The loop that is set, with its laps.
-fn loop_state(line: &mut [u8; ROOM], n: usize, looped: Option<LoopRange>, laps: u64) -> usize {
-    match looped {
-        None => line::put(line, n, b"no loop"),
-        Some(l) => loop_laps(line, n, l.start.0, l.end.0, laps),
-    }
-}
-
-/// State, position, loop and laps.
-fn standing(line: &mut [u8; ROOM], n: usize, t: Transport) -> usize {
-    let state = t.state;
-    let looped = t.looped;
-    let n = state_at(line, n, state, t.position.0);
-    loop_state(line, n, looped, t.laps)
-}
-
 /// The clock, and where the song stands.
 fn last(rt: &impl Print, d: Dry) -> io::Result<()> {
-    let mut line = [0u8; ROOM];
-    let clock = d.clock;
-    let p = d.playhead;
-    let song = p.song;
-    let t = p.transport;
-    let slot = song.slot as u64;
-    let n = line::put(&mut line, 0, b"\n");
-    let n = line::words(&mut line, n, b"at @: slot %, ", 0, clock.0, slot);
-    let n = standing(&mut line, n, t);
-    end(rt, &mut line, n)
-}
-
-/// How many commands were executed, and how many are not yet due.
-fn executed(rt: &impl Print, r: Run) -> io::Result<()> {
-    let mut line = [0u8; ROOM];
-    let n = line::words(
-        &mut line,
-        0,
-        b"executed @, still queued %",
-        0,
-        r.rows as u64,
-        r.queued as u64,
-    );
-    end(rt, &mut line, n)
+    let clock = Grouped(d.clock.0);
+    let slot = Grouped(d.playhead.song.slot as u64);
+    let t = d.playhead.transport;
+    let state = match t.state {
+        TransportState::Stopped => "stopped",
+        TransportState::Playing => "playing",
+        TransportState::Paused => "paused",
+    };
+    let position = Grouped(t.position.0);
+    let looped = match t.looped {
+        None => Text::of("no loop"),
+        Some(l) => {
+            let start = Grouped(l.start.0);
+            let end = Grouped(l.end.0);
+            let laps = Grouped(t.laps);
+            Text::of(format_args!("loop {start} to {end}, laps {laps}"))
+        }
+    };
+    let looped = looped.as_str();
+    println!(rt; "\nat {clock}: slot {slot}, {state} at {position}, {looped}")
 }
 
 // ---- the whole
 
-/// The rows under their head.
-fn table(
-    rt: &impl Print,
-    rows: &[u64; ROWS],
-    n: usize,
-    reasons: &[u64; REASONS],
-    commands: usize,
-    clock: u64,
-    rate: u64,
-) -> io::Result<()> {
-    let w = widths_of(rows, n, clock, rate);
-    row_head(rt, w)?;
-    all_rows(rt, rows, n, reasons, commands, rate, w)
+/// The first of some lines.
+fn first<const N: usize>(lines: &[[u64; N]], count: usize) -> &[[u64; N]] {
+    lines.get(..count).unwrap_or(lines)
 }
 
-/// Writes the sheet of a dry run over the first clips of a list.
+/// Writes the sheet of a dry run over a list.
 pub fn all(
     rt: &impl Print,
-    mode: u32,
-    clips: &[u64; WORDS],
-    count: usize,
+    list: &List,
     records: &[u64; RECORDS],
     reasons: &[u64; REASONS],
     rows: &[u64; ROWS],
     d: DryDone,
 ) -> io::Result<()> {
-    let run = d.run;
-    let dry = run.dry;
-    let clock = dry.clock;
-    let rate = list::cell(clips, 0, 3);
-    head(rt, mode, rate, clock.0)?;
-    all_clips(rt, clips, count)?;
-    counts(rt, d.commands, d.report.taken)?;
-    all_skipped(rt, records, d.commands, reasons, clips, count)?;
-    table(rt, rows, run.rows, reasons, d.commands, clock.0, rate)?;
-    last(rt, dry)?;
-    executed(rt, run)
+    let clips = list.clips();
+    let (records, _) = records.as_chunks::<5>();
+    let (rows, _) = rows.as_chunks::<10>();
+    let end = d.run.dry.clock.0;
+    let rate = clips.first().map_or(0, |clip| clip[3]);
+    head(rt, list.mode, rate, end)?;
+    all_clips(rt, clips)?;
+    all_skipped(rt, clips, records, reasons, d)?;
+    table(rt, first(rows, d.run.rows), reasons, end, rate)?;
+    last(rt, d.run.dry)?;
+    let executed = Grouped(d.run.rows as u64);
+    let queued = Grouped(d.run.queued as u64);
+    println!(rt; "executed {executed}, still queued {queued}")
 }

@@ -34,21 +34,14 @@ pub fn is_free(rt: &HostRuntime, name: &[u8]) -> bool {
 pub fn read(rt: &HostRuntime, name: &[u8], bytes: &mut [u8; MOST]) -> usize
     ensures { result ≤ 1048576 }
 {
-    let w = files::read(
-        rt,
-        b"salvage",
-        name,
-        bytes,
-        b" has more than 1,048,576 bytes",
-    );
-    if !w.read {
+    let long = b" has more than 1,048,576 bytes";
+    let Some(count) = files::read(rt, b"salvage", name, bytes, long) else {
         return 0;
-    }
-    if w.count == 0 {
+    };
+    if count == 0 {
         said::wrong(rt, name, b" is empty");
-        return 0;
     }
-    w.count
+    count
 }
 
 /// The fresh file's name with `.part` behind it; where that is too long for a name, more bytes than a name has.
