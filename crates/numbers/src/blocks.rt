@@ -3,7 +3,7 @@ use crate::told::{samples, stands};
 use bank::{Bank, Clip, Kind};
 use counts::{ClockFrame, Handle, SamplePlace, SongFrame};
 use oneshot::{Voice, Voices};
-use print::{number, text};
+use print::Sample;
 use ramp::Ramp;
 use session::{Answered, Desk, Session};
 use stage::{AS_TONO, Counters, Fade, Playhead, Settings, Sound, Stage};
@@ -14,22 +14,20 @@ use transport::{LoopRange, Transport, TransportState};
 // ---- sessions, laid by hand
 
 /// A pool of 1,200 frames, a queue of 4 records, no capture.
-fn settings() -> Settings {
-    Settings {
-        rate: 48000,
-        mode: AS_TONO,
-        queue: 4,
-        capture: 0,
-        pool: 1200,
-    }
-}
+const SETTINGS: Settings = Settings {
+    rate: 48000,
+    mode: AS_TONO,
+    queue: 4,
+    capture: 0,
+    pool: 1200,
+};
 
 fn clip(serial: u32, kind: Kind, start: u64, frames: u64) -> Clip {
     Clip {
-        serial: serial,
-        kind: kind,
-        start: start,
-        frames: frames,
+        serial,
+        kind,
+        start,
+        frames,
         rate: 48000,
     }
 }
@@ -56,33 +54,19 @@ const BELL: Handle = Handle { slot: 2, serial: 3 };
 
 /// The samples of those clips: 0.5, -0.5, 0.25, 0.25; then 0.5 and the sixteenths from 1 on, and 0.5 again; then sixteenths.
 fn sound_of(place: usize) -> f32 {
-    if place == 1 {
-        return -0.5;
+    match place {
+        1 => -0.5,
+        2 | 3 => 0.25,
+        6..=19 => std::num::nearest_u32_to_f32((place / 2 - 2) as u32) / 16.0,
+        2204..=2399 => 0.0625,
+        _ => 0.5,
     }
-    if place == 2 {
-        return 0.25;
-    }
-    if place == 3 {
-        return 0.25;
-    }
-    if place >= 2204 {
-        return 0.0625;
-    }
-    if place >= 20 {
-        return 0.5;
-    }
-    if place >= 6 {
-        return std::num::nearest_u32_to_f32((place / 2 - 2) as u32) / 16.0;
-    }
-    0.5
 }
 
 fn pool() -> [f32; 2400] {
     let mut all = [0.0; 2400];
-    let mut i: usize = 0;
-    while i < 2400 {
-        all[i] = sound_of(i);
-        i += 1;
+    for (place, sample) in all.iter_mut().enumerate() {
+        *sample = sound_of(place);
     }
     all
 }
@@ -95,41 +79,25 @@ fn session(
     master: f32,
     queued: usize,
 ) -> Session {
-    let none = Voices::none();
-    sounding(song, state, looped, master, none, queued)
-}
-
-/// Such a session with voices.
-fn sounding(
-    song: Handle,
-    state: TransportState,
-    looped: Option<LoopRange>,
-    master: f32,
-    voices: Voices,
-    queued: usize,
-) -> Session {
-    let settings = settings();
-    let bank = clips();
-    let gain = Ramp::new(master);
     Session {
-        settings: settings,
-        bank: bank,
+        settings: SETTINGS,
+        bank: clips(),
         stage: Stage {
             clock: ClockFrame(0),
             playhead: Playhead {
                 transport: Transport {
-                    state: state,
+                    state,
                     position: SongFrame(0),
                     cursor: SongFrame(0),
-                    looped: looped,
+                    looped,
                     laps: 0,
                 },
-                song: song,
+                song,
             },
             sound: Sound {
-                master: gain,
+                master: Ramp::new(master),
                 fade: Fade { tail: None },
-                voices: voices,
+                voices: Voices::none(),
             },
             counters: Counters {
                 executed: 0,
@@ -137,7 +105,7 @@ fn sounding(
                 fired: 0,
             },
         },
-        queued: queued,
+        queued,
         desk: Desk {
             number: queued as u64,
             deepest: 0,
@@ -151,10 +119,10 @@ fn sounding(
 /// A record of a command without a second word.
 fn row(at: u64, number: u64, kind: u64, first: u64) -> Row {
     Row {
-        at: at,
-        number: number,
-        kind: kind,
-        first: first,
+        at,
+        number,
+        kind,
+        first,
         second: 0,
     }
 }
@@ -184,7 +152,7 @@ fn run_told(
     out: &mut [f32],
 ) -> io::Result<Session> {
     let r = run(s, queue, pool, out);
-    stands(rt, r)?;
+    stands(rt, r.answer, r.session)?;
     Ok(r.session)
 }
 
@@ -201,9 +169,9 @@ fn eight_none_one(rt: &impl Print, s: Session, queue: &[u64; 20], pool: &[f32]) 
     let mut none = [0.0; 0];
     let mut one = [0.0; 2];
     let first = run_told(rt, s, queue, pool, &mut eight)?;
-    text(rt, b"  then of 0: ")?;
+    print!(rt; "  then of 0: ")?;
     let second = run_told(rt, first, queue, pool, &mut none)?;
-    text(rt, b"  then of 1: ")?;
+    print!(rt; "  then of 1: ")?;
     run_told(rt, second, queue, pool, &mut one)?;
     Ok(())
 }
@@ -211,7 +179,7 @@ fn eight_none_one(rt: &impl Print, s: Session, queue: &[u64; 20], pool: &[f32]) 
 /// A block of 9 executes both.
 fn nine(rt: &impl Print, s: Session, queue: &[u64; 20], pool: &[f32]) -> io::Result<()> {
     let mut nine = [0.0; 18];
-    text(rt, b"  a block of 9: ")?;
+    print!(rt; "  a block of 9: ")?;
     run_told(rt, s, queue, pool, &mut nine)?;
     Ok(())
 }
@@ -220,7 +188,7 @@ fn nine(rt: &impl Print, s: Session, queue: &[u64; 20], pool: &[f32]) -> io::Res
 fn two_at_8(rt: &impl Print, pool: &[f32]) -> io::Result<()> {
     let mut queue = [0; 20];
     let s = put_two(&mut queue);
-    text(rt, b"two commands at 8, clock 0\n  a block of 8: ")?;
+    print!(rt; "two commands at 8, clock 0\n  a block of 8: ")?;
     eight_none_one(rt, s, &queue, pool)?;
     nine(rt, s, &queue, pool)
 }
@@ -231,11 +199,11 @@ fn two_frames(rt: &impl Print, pool: &[f32]) -> io::Result<()> {
     timeline::put_row(&mut queue, 0, row(0, 1, PLAY, 0));
     let s = session(SHORT, TransportState::Stopped, None, 1.0, 1);
     let mut out = [0.0; 8];
-    text(rt, b"a song of two frames, Play at 0, a block of 4\n  ")?;
+    print!(rt; "a song of two frames, Play at 0, a block of 4\n  ")?;
     run_told(rt, s, &queue, pool, &mut out)?;
-    text(rt, b" ")?;
+    print!(rt; " ")?;
     samples(rt, &out)?;
-    text(rt, b"\n")
+    println!(rt)
 }
 
 /// Gain 0 at rest: the first frame 255/256, so 0.5 sounds as 0.498046875.
@@ -244,10 +212,10 @@ fn gain_zero(rt: &impl Print, pool: &[f32]) -> io::Result<()> {
     timeline::put_row(&mut queue, 0, row(0, 1, GAIN, 0));
     let s = session(LONG, TransportState::Playing, None, 1.0, 1);
     let mut out = [0.0; 2];
-    text(rt, b"Gain 0 at rest, 0.5 sounds as\n ")?;
+    print!(rt; "Gain 0 at rest, 0.5 sounds as\n ")?;
     run(s, &queue, pool, &mut out);
     samples(rt, &out[..2])?;
-    text(rt, b"\n")
+    println!(rt)
 }
 
 /// A loop that wraps inside a block.
@@ -259,11 +227,11 @@ fn loop_wraps(rt: &impl Print, pool: &[f32]) -> io::Result<()> {
     });
     let s = session(LONG, TransportState::Playing, looped, 1.0, 0);
     let mut out = [0.0; 14];
-    text(rt, b"loop 2..4 from 0, a block of 7\n  ")?;
+    print!(rt; "loop 2..4 from 0, a block of 7\n  ")?;
     run_told(rt, s, &queue, pool, &mut out)?;
-    text(rt, b" ")?;
+    print!(rt; " ")?;
     samples(rt, &out)?;
-    text(rt, b"\n")
+    println!(rt)
 }
 
 /// A swap, the master at 0, which the tail ignores as tono: its first frame at 1023/1024, its last but one at 1/1024, its last at 0.
@@ -272,30 +240,27 @@ fn swap_tail(rt: &impl Print, pool: &[f32]) -> io::Result<()> {
     timeline::put_row(&mut queue, 0, row(0, 1, SWAP, 1));
     let s = session(LONG, TransportState::Playing, None, 0.0, 1);
     let mut out = [0.0; 2050];
-    text(
-        rt,
-        b"a swap with the master at 0, a block of 1,025: the tail's frames 1, 1,023, 1,024 and the one after\n  ",
+    print!(rt;
+        "a swap with the master at 0, a block of 1,025: the tail's frames 1, 1,023, 1,024 and the one after\n  "
     )?;
     run_told(rt, s, &queue, pool, &mut out)?;
-    text(rt, b" ")?;
+    print!(rt; " ")?;
     samples(rt, &out[..2])?;
-    text(rt, b"\n ")?;
+    print!(rt; "\n ")?;
     samples(rt, &out[2044..])?;
-    text(rt, b"\n")
+    println!(rt)
 }
 
 /// Sixteen voices, the k-th with k frames gone.
 fn sixteen() -> Voices {
-    let full = Ramp::new(1.0);
+    let gain = Ramp::new(1.0);
     let mut voices = Voices::none();
-    let mut i: usize = 0;
-    while i < 16 {
+    for i in 0..16 {
         voices.table[i] = Voice {
             handle: BELL,
             head: SamplePlace(i * 2),
-            gain: full,
+            gain,
         };
-        i += 1;
     }
     voices.count = 16;
     voices
@@ -303,29 +268,22 @@ fn sixteen() -> Voices {
 
 /// A block of one frame with nothing queued: its left sample, and how many voices are left.
 fn one_frame(rt: &impl Print, s: Session, pool: &[f32]) -> io::Result<Session> {
-    let queue = [0; 20];
     let mut out = [0.0; 2];
-    let next = run(s, &queue, pool, &mut out).session;
-    text(rt, b" ")?;
-    samples(rt, &out[..1])?;
-    let stage = next.stage;
-    text(rt, b" ")?;
-    number(rt, stage.sound.voices.count as u64)?;
-    text(rt, b"\n")?;
+    let next = run(s, &[0; 20], pool, &mut out).session;
+    let left = next.stage.sound.voices.count;
+    println!(rt; "  {} {left}", Sample(out[0]))?;
     Ok(next)
 }
 
 /// Sixteen voices that end on different frames: one leaves after each.
 fn voices_end(rt: &impl Print, pool: &[f32]) -> io::Result<()> {
-    let mut s = sounding(LONG, TransportState::Stopped, None, 1.0, sixteen(), 0);
-    text(
-        rt,
-        b"sixteen voices of 0.0625 that end on different frames: the sum, and how many are left\n",
+    let mut s = session(LONG, TransportState::Stopped, None, 1.0, 0);
+    s.stage.sound.voices = sixteen();
+    print!(rt;
+        "sixteen voices of 0.0625 that end on different frames: the sum, and how many are left\n"
     )?;
-    let mut i: u32 = 0;
-    while i < 17 {
+    for _ in 0..17 {
         s = one_frame(rt, s, pool)?;
-        i += 1;
     }
     Ok(())
 }

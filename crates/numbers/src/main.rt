@@ -2,6 +2,7 @@
 #![tactic(auto)]
 
 mod blocks;
+mod host;
 mod laps;
 mod loops;
 mod many;

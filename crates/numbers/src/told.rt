@@ -1,6 +1,6 @@
 //! What the numbers are told by: samples, a block's answer, where a session stands, and whether all is as it was.
 use print::{Sample, answered};
-use session::{Answered, Refusal, Session};
+use session::{Refusal, Session};
 use std::io;
 use transport::LoopRange;
 
@@ -29,7 +29,7 @@ pub fn place(rt: &impl Print, s: Session) -> io::Result<()> {
     print!(rt; ", ")?;
     print::state(rt, s.state())?;
     let executed = s.stage.counters.executed;
-    print!(rt; ", executed {executed}, queued {}\n", s.queue_depth())
+    println!(rt; ", executed {executed}, queued {}", s.queue_depth())
 }
 
 pub fn range(rt: &impl Print, l: Option<LoopRange>) -> io::Result<()> {
@@ -40,15 +40,15 @@ pub fn range(rt: &impl Print, l: Option<LoopRange>) -> io::Result<()> {
 }
 
 /// What a block answered, and where the session then stands.
-pub fn stands(rt: &impl Print, r: Answered<u64>) -> io::Result<()> {
-    block_answer(rt, r.answer)?;
-    place(rt, r.session)
+pub fn stands(rt: &impl Print, a: Result<u64, Refusal>, s: Session) -> io::Result<()> {
+    block_answer(rt, a)?;
+    place(rt, s)
 }
 
 /// Whether a refused call left all as it was.
 pub fn kept(rt: &impl Print, same: bool) -> io::Result<()> {
     if same {
-        return print!(rt; ", all as it was\n");
+        return println!(rt; ", all as it was");
     }
-    print!(rt; ", CHANGED\n")
+    println!(rt; ", CHANGED")
 }
