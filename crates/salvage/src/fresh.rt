@@ -1,7 +1,8 @@
 //! The damaged file is read whole, and the fresh one is there whole or not at all.
-ghost use Rattle.std.specs.Prelude.{◌≤◌};
+ghost use Rattle.std.specs.Prelude.{◌≤◌, IfSome};
 
 use crate::said;
+use crate::said::Failure;
 use std::fs::File;
 use std::io::Write;
 use std::{fs, io};
@@ -20,48 +21,50 @@ pub fn is_free(rt: &HostRuntime, name: &[u8]) -> bool {
             );
             false
         }
+        Err(e) if e.kind() == io::ErrorKind::NotFound => true,
         Err(e) => {
-            if e.kind() == io::ErrorKind::NotFound {
-                return true;
-            }
-            said::failed(rt, b"write", name, e);
+            Failure::new(b"write", name, e).say(rt);
             false
         }
     }
 }
 
-/// How many bytes a file has, read to the front; 0 where there is nothing to salvage, which is said.
-pub fn read(rt: &HostRuntime, name: &[u8], bytes: &mut [u8; MOST]) -> usize
-    ensures { result ≤ 1048576 }
+/// How many bytes a file has, read to the front, if there is something to salvage; if not, it is said.
+pub fn read(rt: &HostRuntime, name: &[u8], bytes: &mut [u8; MOST]) -> Option<usize>
+    ensures { IfSome result (λ n. n ≤ 1048576) }
 {
     let long = b" has more than 1,048,576 bytes";
-    let Some(count) = files::read(rt, b"salvage", name, bytes, long) else {
-        return 0;
-    };
+    let count = files::read(rt, b"salvage", name, bytes, long)?;
     if count == 0 {
         said::wrong(rt, name, b" is empty");
+        return None;
     }
-    count
+    Some(count)
 }
 
 /// The fresh file's name with `.part` behind it; where that is too long for a name, more bytes than a name has.
-fn part_name(name: &[u8], part: &mut [u8; 4096]) -> usize
-    ensures { result ≤ 4096 }
-{
-    let n = name.len();
-    if n > 4096 {
-        return 4096;
+#[derive(Clone, Copy)]
+struct Part {
+    bytes: [u8; 4096],
+    len: usize,
+    ghost inside: { len ≤ 4096 },
+}
+
+impl Part {
+    fn of(name: &[u8]) -> Part {
+        let mut bytes = [b'.'; 4096];
+        let n = name.len().min(4096);
+        bytes[..n].copy_from_slice(&name[..n]);
+        if n > 4090 {
+            return Part { bytes, len: 4096 };
+        }
+        bytes[n..n + 5].copy_from_slice(b".part");
+        Part { bytes, len: n + 5 }
     }
-    part[..n].copy_from_slice(name);
-    if n > 4090 {
-        return 4096;
+
+    fn name(&self) -> &[u8] {
+        &self.bytes[..self.len]
     }
-    part[n] = b'.';
-    part[n + 1] = b'p';
-    part[n + 2] = b'a';
-    part[n + 3] = b'r';
-    part[n + 4] = b't';
-    n + 5
 }
 
 /// Makes a file anew.
@@ -78,6 +81,11 @@ fn store(file: &mut File, bytes: &[u8]) -> io::Result<()> {
     file.sync_all()
 }
 
+/// Gives a file another name.
+fn rename(rt: &HostRuntime, from: &[u8], to: &[u8]) -> io::Result<()> {
+    fs::rename(rt, files::path(from)?, files::path(to)?)
+}
+
 /// Removes a file, if that can be.
 fn remove(rt: &HostRuntime, name: &[u8]) {
     if let Ok(path) = files::path(name) {
@@ -85,58 +93,39 @@ fn remove(rt: &HostRuntime, name: &[u8]) {
     }
 }
 
-/// Writes a file that is made anew.
-fn fill(rt: &HostRuntime, name: &[u8], bytes: &[u8]) -> bool {
-    match make(rt, name) {
-        Ok(file) => {
-            let mut file = file;
-            match store(&mut file, bytes) {
-                Ok(()) => true,
-                Err(e) => {
-                    said::failed(rt, b"write", name, e);
-                    remove(rt, name);
-                    false
-                }
-            }
-        }
-        Err(e) => {
-            said::failed(rt, b"make", name, e);
-            false
-        }
+/// Writes a file that is made anew. Nothing is left of one that is not stored whole.
+fn fill<'a>(rt: &HostRuntime, name: &'a [u8], bytes: &[u8]) -> Result<(), Failure<'a>> {
+    let mut file = make(rt, name).map_err(|e| Failure::new(b"make", name, e))?;
+    let stored = store(&mut file, bytes);
+    if stored.is_err() {
+        remove(rt, name);
     }
-}
-
-/// Gives a file another name.
-fn rename(rt: &HostRuntime, from: &[u8], to: &[u8]) -> io::Result<()> {
-    fs::rename(rt, files::path(from)?, files::path(to)?)
+    stored.map_err(|e| Failure::new(b"write", name, e))
 }
 
 /// Writes the fresh file under a part's name, and gives it its own once it is whole.
-fn write_by(rt: &HostRuntime, name: &[u8], part: &[u8], bytes: &[u8]) -> bool {
-    if !fill(rt, part, bytes) {
-        return false;
+fn write_by<'a>(
+    rt: &HostRuntime,
+    name: &'a [u8],
+    part: &'a [u8],
+    bytes: &[u8],
+) -> Result<(), Failure<'a>> {
+    fill(rt, part, bytes)?;
+    let renamed = rename(rt, part, name);
+    if renamed.is_err() {
+        remove(rt, part);
     }
-    match rename(rt, part, name) {
-        Ok(()) => true,
-        Err(e) => {
-            said::failed(rt, b"write", name, e);
-            remove(rt, part);
-            false
-        }
-    }
-}
-
-/// The part's name has n bytes.
-fn write_named(rt: &HostRuntime, name: &[u8], part: &[u8; 4096], n: usize, bytes: &[u8]) -> bool
-    requires { n ≤ 4096 }
-{
-    let whole: &[u8] = part;
-    write_by(rt, name, &whole[..n], bytes)
+    renamed.map_err(|e| Failure::new(b"write", name, e))
 }
 
 /// Writes the fresh file, or says why it is not written.
 pub fn write(rt: &HostRuntime, name: &[u8], bytes: &[u8]) -> bool {
-    let mut part = [b'.'; 4096];
-    let n = part_name(name, &mut part);
-    write_named(rt, name, &part, n, bytes)
+    let part = Part::of(name);
+    match write_by(rt, name, part.name(), bytes) {
+        Ok(()) => true,
+        Err(failure) => {
+            failure.say(rt);
+            false
+        }
+    }
 }

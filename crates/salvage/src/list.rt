@@ -1,10 +1,9 @@
 //! The list of a file's ranges, and the totals.
 ghost use Rattle.std.specs.Prelude.{◌<◌, ◌≤◌};
 
-use crate::words;
-use print::{column, text};
+use crate::words::{Command, Passed};
 use remains::{Fate, Range, Salvaged};
-use std::io;
+use std::{fmt, io};
 
 /// The words of the most ranges that are listed, 65,536.
 pub const WORDS: usize = 196608;
@@ -31,16 +30,32 @@ fn range(list: &[u64; WORDS], i: usize) -> Range
 
 /// How many bytes a range has.
 fn size(r: Range) -> u64 {
-    std::num::wrapping_sub_u64(r.to, r.from)
+    r.to.wrapping_sub(r.from)
 }
 
-/// The bytes from a place on; past the end none.
-fn behind(file: &[u8], from: u64) -> &[u8] {
-    let at = from as usize;
-    if at > file.len() {
-        return &file[..0];
+/// The line of a range: its place, its size and what was done with it.
+#[derive(Clone, Copy)]
+struct Row<'a> {
+    file: &'a [u8],
+    range: Range,
+}
+
+impl fmt::Display for Row<'_> {
+    fn fmt<W: fmt::Write>(&self, f: &mut fmt::Formatter<W>) -> fmt::Result {
+        let from = self.range.from;
+        let size = size(self.range);
+        let field = self.file.get(from as usize..).unwrap_or(&[]);
+        write!(f, "{from:>7}  {size:>7}")?;
+        match self.range.what {
+            Fate::Kept => write!(f, "  kept         {}", Command(field)),
+            Fate::Passed => write!(
+                f,
+                "  passed over                          {}",
+                Passed(field)
+            ),
+            Fate::Dropped => write!(f, "  dropped"),
+        }
     }
-    &file[at..]
 }
 
 /// Fields that were passed over, and dropped bytes.
@@ -51,83 +66,51 @@ struct Totals {
 }
 
 impl Totals {
-    /// With one range more.
-    fn with(mut self, r: Range) -> Totals {
+    /// One range more.
+    fn add(&mut self, r: Range) {
         match r.what {
             Fate::Kept => {}
-            Fate::Passed => self.passed = std::num::wrapping_add_u64(self.passed, 1),
-            Fate::Dropped => self.dropped = std::num::wrapping_add_u64(self.dropped, size(r)),
+            Fate::Passed => self.passed = self.passed.wrapping_add(1),
+            Fate::Dropped => self.dropped = self.dropped.wrapping_add(size(r)),
         }
-        self
     }
 }
 
-/// What was done with a range.
-fn done(rt: &impl Print, file: &[u8], r: Range) -> io::Result<()> {
-    let f = behind(file, r.from);
-    match r.what {
-        Fate::Kept => {
-            text(rt, b"  kept         ")?;
-            words::command(rt, f)
-        }
-        Fate::Passed => {
-            text(rt, b"  passed over                          ")?;
-            words::passed(rt, f)
-        }
-        Fate::Dropped => text(rt, b"  dropped"),
-    }
-}
-
-/// The line of a range.
-fn line(rt: &impl Print, file: &[u8], r: Range) -> io::Result<()> {
-    column(rt, r.from, 7)?;
-    text(rt, b"  ")?;
-    column(rt, size(r), 7)?;
-    done(rt, file, r)?;
-    text(rt, b"\n")
-}
-
-/// How many of a thing there are.
-fn total(rt: &impl Print, thing: &[u8], n: u64) -> io::Result<()> {
-    text(rt, thing)?;
-    column(rt, n, 7)
-}
-
-/// A line for each range.
+/// A line for each of the first n ranges.
 fn ranges(rt: &impl Print, file: &[u8], list: &[u64; WORDS], n: usize) -> io::Result<Totals>
     requires { n ≤ 65536 }
 {
-    let mut t = Totals {
+    let mut totals = Totals {
         passed: 0,
         dropped: 0,
     };
-    let mut i: usize = 0;
-    while i < n {
-        let r = range(list, i);
-        line(rt, file, r)?;
-        t = t.with(r);
-        i += 1;
+    for i in 0..n {
+        let range = range(list, i);
+        rt.println(Row { file, range })?;
+        totals.add(range);
     }
-    Ok(t)
+    Ok(totals)
 }
 
 /// The list, and behind it the totals.
 pub fn all(rt: &impl Print, file: &[u8], list: &[u64; WORDS], s: Salvaged) -> io::Result<()>
     requires { s.ranges ≤ 65536 }
 {
-    text(
-        rt,
-        b"  place    bytes  what           number         frame  field\n",
-    )?;
-    let t = ranges(rt, file, list, s.ranges)?;
-    total(rt, b"\nbytes of the damaged file ", file.len() as u64)?;
-    total(rt, b"\ncommands kept             ", s.kept as u64)?;
-    total(rt, b"\nfields passed over        ", t.passed)?;
-    total(rt, b"\nbytes dropped             ", t.dropped)?;
-    total(rt, b"\nbytes of the fresh file   ", s.bytes as u64)?;
-    text(rt, b"\n")?;
+    println!(rt; "  place    bytes  what           number         frame  field")?;
+    let totals = ranges(rt, file, list, s.ranges)?;
+    let rows = [
+        ("bytes of the damaged file", file.len() as u64),
+        ("commands kept", s.kept as u64),
+        ("fields passed over", totals.passed),
+        ("bytes dropped", totals.dropped),
+        ("bytes of the fresh file", s.bytes as u64),
+    ];
+    println!(rt;)?;
+    for (thing, n) in rows {
+        println!(rt; "{thing:<26}{n:>7}")?;
+    }
     if s.kept == 0 {
-        text(rt, b"no command was found in it\n")?;
+        println!(rt; "no command was found in it")?;
     }
     Ok(())
 }

@@ -35,9 +35,7 @@ fn write(
 ) -> io::Result<()>
     requires { (s.bytes ≤ 1048586) × (s.ranges ≤ 65536) }
 {
-    let n = s.bytes;
-    let whole: &[u8] = out;
-    if fresh::write(rt, fresh, &whole[..n]) {
+    if fresh::write(rt, fresh, &out[..s.bytes]) {
         list::all(rt, file, list, s)?;
     }
     Ok(())
@@ -70,17 +68,16 @@ fn salvage(rt: &HostRuntime, damaged: &[u8], file: &[u8], fresh: &[u8]) -> io::R
 
 /// Reads the damaged file.
 fn read(rt: &HostRuntime, damaged: &[u8], fresh: &[u8], bytes: &mut [u8; MOST]) -> io::Result<()> {
-    let n = fresh::read(rt, damaged, bytes);
-    if n == 0 {
+    let Some(n) = fresh::read(rt, damaged, bytes) else {
         return Ok(());
-    }
+    };
     let whole: &[u8] = bytes;
     salvage(rt, damaged, &whole[..n], fresh)
 }
 
 /// Both names, where the second is free.
 fn both(rt: &HostRuntime, damaged: &[u8], fresh: &[u8]) -> io::Result<()> {
-    if (damaged.len() == 0) | (fresh.len() == 0) {
+    if damaged.is_empty() || fresh.is_empty() {
         said::how(rt);
         return Ok(());
     }
@@ -99,7 +96,7 @@ fn second(rt: &HostRuntime, damaged: &[u8]) -> io::Result<()> {
 }
 
 fn main(rt: HostRuntime) -> io::Result<()> {
-    if !files::is_given(&rt, 2) | files::is_given(&rt, 3) {
+    if !files::is_given(&rt, 2) || files::is_given(&rt, 3) {
         said::how(&rt);
         return Ok(());
     }

@@ -15,9 +15,23 @@ pub fn wrong(rt: &HostRuntime, name: &[u8], what: &[u8]) {
     files::wrong(rt, b"salvage", name, what);
 }
 
-/// What cannot be done with a file, and why the system says so.
-pub fn failed(rt: &HostRuntime, what: &[u8], name: &[u8], e: io::Error) {
-    files::failed(rt, b"salvage", what, name, e);
+/// What could not be done with which file, and why the system says so.
+#[derive(Drop)]
+pub struct Failure<'a> {
+    what: &'static [u8],
+    name: &'a [u8],
+    error: io::Error,
+}
+
+impl<'a> Failure<'a> {
+    pub fn new(what: &'static [u8], name: &'a [u8], error: io::Error) -> Failure<'a> {
+        Failure { what, name, error }
+    }
+
+    pub fn say(self, rt: &HostRuntime) {
+        let Failure { what, name, error } = self;
+        files::failed(rt, b"salvage", what, name, error);
+    }
 }
 
 /// Why a file is not salvaged: too many commands, or too many ranges. The output is never too short.
