@@ -1,4 +1,6 @@
 //! Block numbers, over sessions laid by hand.
+ghost use Rattle.std.specs.Prelude.{◌<◌};
+
 use crate::told::{samples, stands};
 use bank::{Bank, Clip, Kind};
 use counts::{ClockFrame, Handle, SamplePlace, SongFrame};
@@ -8,7 +10,7 @@ use ramp::Ramp;
 use session::{Answered, Desk, Session};
 use stage::{AS_TONO, Counters, Fade, Playhead, Settings, Sound, Stage};
 use std::io;
-use timeline::Row;
+use timeline::{Command, QueueRecord};
 use transport::{LoopRange, Transport, TransportState};
 
 // ---- sessions, laid by hand
@@ -116,24 +118,19 @@ fn session(
     }
 }
 
-/// A record of a command without a second word.
-fn row(at: u64, number: u64, kind: u64, first: u64) -> Row {
-    Row {
-        at,
+/// Puts a command that is due at a frame into the queue; one with a gain that is not finite is none.
+fn put(queue: &mut [u64; 20], place: usize, at: u64, number: u64, command: Command)
+    requires { place < 4 }
+{
+    let record = QueueRecord {
+        at: ClockFrame(at),
         number,
-        kind,
-        first,
-        second: 0,
+        command,
+    };
+    if command.gain_ok() {
+        timeline::put_row(queue, place, timeline::row_of(record));
     }
 }
-
-const PLAY: u64 = 1;
-
-const PAUSE: u64 = 2;
-
-const GAIN: u64 = 8;
-
-const SWAP: u64 = 9;
 
 /// A block into a part of the output, with no capture.
 fn run(s: Session, queue: &[u64; 20], pool: &[f32], out: &mut [f32]) -> Answered<u64> {
@@ -158,8 +155,8 @@ fn run_told(
 
 /// Play and Pause at 8, for a session at rest.
 fn put_two(queue: &mut [u64; 20]) -> Session {
-    timeline::put_row(queue, 0, row(8, 2, PAUSE, 0));
-    timeline::put_row(queue, 1, row(8, 1, PLAY, 0));
+    put(queue, 0, 8, 2, Command::Pause);
+    put(queue, 1, 8, 1, Command::Play);
     session(LONG, TransportState::Stopped, None, 1.0, 2)
 }
 
@@ -196,7 +193,7 @@ fn two_at_8(rt: &impl Print, pool: &[f32]) -> io::Result<()> {
 /// Song (0.5, -0.5), (0.25, 0.25), length 2, Play at 0, block of 4: those pairs, four zeros; position 2, Stopped.
 fn two_frames(rt: &impl Print, pool: &[f32]) -> io::Result<()> {
     let mut queue = [0; 20];
-    timeline::put_row(&mut queue, 0, row(0, 1, PLAY, 0));
+    put(&mut queue, 0, 0, 1, Command::Play);
     let s = session(SHORT, TransportState::Stopped, None, 1.0, 1);
     let mut out = [0.0; 8];
     print!(rt; "a song of two frames, Play at 0, a block of 4\n  ")?;
@@ -209,7 +206,7 @@ fn two_frames(rt: &impl Print, pool: &[f32]) -> io::Result<()> {
 /// Gain 0 at rest: the first frame 255/256, so 0.5 sounds as 0.498046875.
 fn gain_zero(rt: &impl Print, pool: &[f32]) -> io::Result<()> {
     let mut queue = [0; 20];
-    timeline::put_row(&mut queue, 0, row(0, 1, GAIN, 0));
+    put(&mut queue, 0, 0, 1, Command::Gain(0.0));
     let s = session(LONG, TransportState::Playing, None, 1.0, 1);
     let mut out = [0.0; 2];
     print!(rt; "Gain 0 at rest, 0.5 sounds as\n ")?;
@@ -237,7 +234,7 @@ fn loop_wraps(rt: &impl Print, pool: &[f32]) -> io::Result<()> {
 /// A swap, the master at 0, which the tail ignores as tono: its first frame at 1023/1024, its last but one at 1/1024, its last at 0.
 fn swap_tail(rt: &impl Print, pool: &[f32]) -> io::Result<()> {
     let mut queue = [0; 20];
-    timeline::put_row(&mut queue, 0, row(0, 1, SWAP, 1));
+    put(&mut queue, 0, 0, 1, Command::Swap(SHORT));
     let s = session(LONG, TransportState::Playing, None, 0.0, 1);
     let mut out = [0.0; 2050];
     print!(rt;
