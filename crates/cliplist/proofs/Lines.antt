@@ -5,20 +5,19 @@ use mathlib.Core.Bool.{Bool, true, false, not, ◌&&◌}
 use mathlib.Core.List.{List}
 use Prim.Native.Nat.{ℕ, zero, suc, ◌+◌, ◌%◌, ◌^◌, ◌≤◌, ◌<◌}
 use native.Mathlib.Omega.{arith}
+use native.Mathlib.Numerals.{add-one}
 use lib.Dec.{ltb, leb, eqb}
 use lib.ListN.{length}
 use borrow.Author.Tests.{ltb-true, leb-true, le-leb}
 use Rattle.counts.specs.Below.{all_below}
 use Rattle.counts.proofs.Below.{all_at}
-use Rattle.counts.proofs.Truth.{two_ways, lt_or_le, and_l, and_r, not_true, never}
-use Rattle.bank.specs.declared.Bank.{Bank}
-use Rattle.bank.specs.Slots.{used_at}
+use Rattle.counts.proofs.Truth.{two_ways, lt_or_le, and_l, and_r, never}
 use Rattle.cliplist.specs.declared.Line.{Line}
 use Rattle.cliplist.specs.declared.Entry.{Entry}
 use Rattle.cliplist.specs.declared.Listing.{Listing}
 use Rattle.std.specs.Prelude.{Some, None}
-use Rattle.cliplist.specs.Start.{takes, spaced, total_of, no_clips, listed_in, bank_of}
-use Rattle.cliplist.specs.Words.{line_at, is_kind, line_reads, entry_at, entries_of, lines_in, is_list, all_lines_fit, session_in, clips_ok, start_of, listing, Lined, clip_fits, clip_more}
+use Rattle.cliplist.specs.Start.{takes, spaced, total_of, listed_in, bank_of}
+use Rattle.cliplist.specs.Words.{line_at, is_kind, line_reads, entry_at, entries_of, lines_in, is_list, all_lines_fit, listing, Lined, clip_fits, clip_more}
 use Rattle.cliplist.proofs.Built.{built}
 
 -- what a line that can be read has
@@ -39,27 +38,7 @@ readable x h =
     let ab : a && b ≡ true = and_l (a && b) c abc in
     record { kind = and_l a b ab; slot = ltb-true _ _ (and_r a b ab); serial = ltb-true _ _ (and_r (a && b) c abc); rate = ltb-true _ _ (and_r (a && b && c) d h) }
 
--- what a clip that fits has
-pub record Fitting (x : Listing) (e : Entry) : Type 0 where
-  pub among : e.handle.slot < 32
-  pub free : used_at x.bank.used e.handle.slot ≡ false
-  pub held : x.total + e.frames ≤ 33554432
-
-pub fitting : (x : Listing) (e : Entry) → clip_fits x e ≡ true → Fitting x e
-unfolding clip_fits
-fitting x e h =
-    let a = ltb e.handle.slot 32 in
-    let b = not (used_at x.bank.used e.handle.slot) in
-    let c = leb (x.total + e.frames) 33554432 in
-    let ab : a && b ≡ true = and_l (a && b) c h in
-    record { among = ltb-true _ _ (and_l a b ab); free = not_true _ (and_r a b ab); held = leb-true _ _ (and_r (a && b) c h) }
-
 -- ---- the lines read so far
-
--- no line
-pub lined_none : (ws : List ℕ) → Lined ws 0 (Some (listing no_clips 0))
-unfolding all_lines_fit entries_of all_below spaced total_of bank_of
-lined_none ws = (refl, refl, refl)
 
 -- lines that fit can all be read
 pub fit_reads : (ws : List ℕ) (n : ℕ) → all_lines_fit ws n ≡ true → all_below n (λ i. line_reads (line_at ws i)) ≡ true
@@ -116,8 +95,8 @@ lined_stop ws n k b f = fit_never ws n k b f
 -- ---- one line more
 
 -- a line that cannot be read
-pub lined_not : (ws : List ℕ) (i : ℕ) → line_reads (line_at ws i) ≡ false → Lined ws (suc i) None
-lined_not ws i r = go (two_ways (all_lines_fit ws (suc i)))
+pub lined_not : (ws : List ℕ) (i : ℕ) → line_reads (line_at ws i) ≡ false → all_lines_fit ws (i + 1) ≡ false
+lined_not ws i r = rw add-one (go (two_ways (all_lines_fit ws (suc i))))
   where
     go : (all_lines_fit ws (suc i) ≡ true) ⊎ (all_lines_fit ws (suc i) ≡ false) → all_lines_fit ws (suc i) ≡ false
     go (inl y) = absurd (never (sym (all_at (λ i. line_reads (line_at ws i)) (suc i) i (fit_reads ws (suc i) y) (omega arith)) ∙ r))
@@ -169,13 +148,3 @@ list_long ws h = leb-true 6 (length ws) (and_r (eqb (length ws % 6) 0) (leb 6 (l
 -- which can be read where the lines fit
 pub fit_first : (ws : List ℕ) → is_list ws ≡ true → all_lines_fit ws (lines_in ws) ≡ true → line_reads (line_at ws 0) ≡ true
 fit_first ws h f = let n = list_long ws h in all_at (λ i. line_reads (line_at ws i)) (lines_in ws) 0 (fit_reads ws (lines_in ws) f) (omega arith)
-
--- what a refused list gives,
-pub start_refused : (m : ℕ) (ws : List ℕ) → clips_ok m ws ≡ false → None ≡ start_of m ws
-unfolding start_of
-start_refused m ws e = rw e
-
--- and an accepted one
-pub start_accepted : (m : ℕ) (ws : List ℕ) → clips_ok m ws ≡ true → Some (session_in m ws) ≡ start_of m ws
-unfolding start_of
-start_accepted m ws e = rw e

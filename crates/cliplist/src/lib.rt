@@ -51,6 +51,7 @@ pub const COMMANDS: usize = 256;
 // ---- lines
 
 /// Line i of a list.
+#[tactic(auto, unfolding(crate::specs::Words::line_at))]
 fn line_at(words: &[u64], i: usize) -> Line
     requires { i * 6 + 6 ≤ length words.now }
     ensures { result ≡ line_at words.now i }
@@ -67,10 +68,11 @@ fn line_at(words: &[u64], i: usize) -> Line
 }
 
 /// It can be read: its kind is known, and its slot, serial and rate are numbers of 32 bits.
+#[tactic(auto, unfolding(crate::specs::Words::line_reads))]
 fn line_reads(x: Line) -> bool
     ensures { result ≡ line_reads x }
 {
-    ((x.kind == 1) | (x.kind == 2)) & (x.slot < BITS) & (x.serial < BITS) & (x.rate < BITS)
+    (x.kind == 1 || x.kind == 2) && x.slot < BITS && x.serial < BITS && x.rate < BITS
 }
 
 /// 1 is a song of its length, 2 a stinger, whose length is not looked at.
@@ -84,18 +86,18 @@ fn kind_of(kind: u64, extent: u64) -> Kind
 }
 
 /// The clip that a line lists.
+#[tactic(auto, unfolding(crate::specs::Words::line_reads, crate::specs::Words::entry_of))]
 fn entry_of(x: Line) -> Entry
     requires { line_reads x ≡ true }
     ensures { result ≡ entry_of x }
 {
-    let slot = x.slot as u32;
-    let serial = x.serial as u32;
-    let rate = x.rate as u32;
-    let kind = kind_of(x.kind, x.extent);
     Entry {
-        handle: Handle { slot, serial },
-        kind: kind,
-        rate: rate,
+        handle: Handle {
+            slot: x.slot as u32,
+            serial: x.serial as u32,
+        },
+        kind: kind_of(x.kind, x.extent),
+        rate: x.rate as u32,
         frames: x.frames,
     }
 }
@@ -103,82 +105,79 @@ fn entry_of(x: Line) -> Entry
 // ---- clips
 
 /// No clip; every serial counts as given.
+#[tactic(auto, unfolding(bank::specs::Slots::empty_bank, crate::specs::Start::no_clips))]
 fn no_clips() -> Bank
     ensures { result ≡ no_clips }
 {
-    let mut b = Bank::empty();
-    b.last = 0xffff_ffff;
-    b
+    Bank {
+        last: 0xffff_ffff,
+        ..Bank::empty()
+    }
 }
 
 /// Is a slot there, and free?
 fn slot_free(used: u32, slot: u32) -> bool
     ensures { result ≡ ltb slot 32 && not (used_at used slot) }
 {
-    if slot < 32 {
-        return !bank::is_used(used, slot as usize);
-    }
-    false
+    slot < 32 && !bank::is_used(used, slot as usize)
 }
 
 /// Has one clip more a slot of its own, and frames that a pool can hold?
+#[tactic(auto, unfolding(crate::specs::Words::clip_fits))]
 fn clip_fits(x: Listing, e: Entry) -> bool
     ensures { result ≡ clip_fits x e }
 {
-    let b = x.bank;
-    let h = e.handle;
-    let free = slot_free(b.used, h.slot);
-    let held = bank::ends_by(x.total, e.frames, session::POOL_CAP);
-    free & held
+    slot_free(x.bank.used, e.handle.slot) && bank::ends_by(x.total, e.frames, session::POOL_CAP)
 }
 
 /// A clip in its slot, laid at a start.
+#[tactic(auto, unfolding(bank::specs::Slots::loaded_in, crate::specs::Start::listed_in))]
 fn listed_in(b: Bank, e: Entry, start: u64) -> Bank
     requires { (e.handle.slot < 32) × (used_at b.used e.handle.slot ≡ false) }
     ensures { result ≡ listed_in b e start }
 {
-    let h = e.handle;
-    let kind = e.kind;
     let clip = Clip {
-        serial: h.serial,
-        kind: kind,
-        start: start,
+        serial: e.handle.serial,
+        kind: e.kind,
+        start,
         frames: e.frames,
         rate: e.rate,
     };
-    let last = b.last;
-    let mut d = bank::place(b, h.slot, clip);
-    d.last = last;
-    d
+    Bank {
+        last: b.last,
+        ..bank::place(b, e.handle.slot, clip)
+    }
 }
 
 /// One clip more, behind the others, if it fits.
+#[tactic(auto, unfolding(crate::specs::Words::clip_fits, crate::specs::Words::clip_more))]
 fn list_clip(x: Listing, e: Entry) -> Option<Listing>
     ensures { result ≡ clip_more x e }
 {
     if !clip_fits(x, e) {
         return None;
     }
-    let b = x.bank;
-    let total = x.total + e.frames;
-    let bank = listed_in(b, e, x.total);
-    Some(Listing { bank, total })
+    Some(Listing {
+        bank: listed_in(x.bank, e, x.total),
+        total: x.total + e.frames,
+    })
 }
 
 /// One line more.
+#[tactic(auto, using(crate::proofs::Lines::lined_not, crate::proofs::Lines::lined_more))]
 fn list_line(x: Listing, words: &[u64], i: usize) -> Option<Listing>
     requires { (i * 6 + 6 ≤ length words.now) × Lined words.now i (Some x) }
     ensures { Lined words.now (i + 1) result }
 {
     let line = line_at(words, i);
     if line_reads(line) {
-        let e = entry_of(line);
-        return list_clip(x, e);
+        return list_clip(x, entry_of(line));
     }
     None
 }
 
 /// Reads a list, if all its lines fit.
+#[tactic(auto, using(crate::proofs::Lines::lined_stop), unfolding(counts::specs::Below::all_below, crate::specs::Start::spaced, crate::specs::Start::total_of, crate::specs::Start::bank_of, crate::specs::Words::entries_of, crate::specs::Words::all_lines_fit))]
 fn read_lines(words: &[u64], lines: usize) -> Option<Listing>
     requires { lines * 6 ≤ length words.now }
     ensures { Lined words.now lines result }
@@ -196,10 +195,11 @@ fn read_lines(words: &[u64], lines: usize) -> Option<Listing>
 // ---- the session
 
 /// The words are whole lines, at least one.
+#[tactic(auto, unfolding(crate::specs::Words::is_list))]
 fn is_list(words: &[u64]) -> bool
     ensures { result ≡ is_list words.now }
 {
-    (words.len() % WORDS == 0) & (WORDS <= words.len())
+    words.len() % WORDS == 0 && WORDS <= words.len()
 }
 
 /// Is a session well formed that queues and captures nothing?
@@ -212,26 +212,25 @@ fn is_formed(s: Session) -> bool
 }
 
 /// The session of a list whose lines fit: its first clip is the song and gives the rate.
+#[tactic(auto, using(crate::proofs::Lines::list_long, crate::proofs::Lines::fit_first))]
 fn session_of(mode: u32, words: &[u64], listing: Listing) -> Session
     requires { (is_list words.now ≡ true) × Lined words.now (lines_in words.now) (Some listing) }
     ensures { result ≡ session_in mode words.now }
 {
-    let line = line_at(words, 0);
-    let first = entry_of(line);
+    let first = entry_of(line_at(words, 0));
     let settings = Settings {
         rate: first.rate,
-        mode: mode,
+        mode,
         queue: COMMANDS,
         capture: 0,
         pool: listing.total,
     };
-    let bank = listing.bank;
-    let song = first.handle;
-    clips::session_at(settings, bank, song)
+    clips::session_at(settings, listing.bank, first.handle)
 }
 
 /// The session of a clip list, six words a line: the clips listed and no other, the first its opening song. A list that no well
 /// formed session has is refused.
+#[tactic(auto, unfolding(crate::specs::Words::clips_ok, crate::specs::Words::start_of))]
 pub fn start(mode: u32, words: &[u64]) -> Option<Session>
     ensures { result ≡ start_of mode words.now }
 {

@@ -1,4 +1,3 @@
-mod Past
 pub mod Held
 pub mod Loaded
 pub mod Retired

@@ -27,6 +27,7 @@ use transport::{Transport, TransportState};
 // ---- open
 
 /// Opening has no session yet: 7, 1, 2, 3, 5, 6, then 13 if the song's rate isn't the session's, then 10.
+#[tactic(auto, unfolding(crate::specs::Open::weigh_open, session::specs::Refusal::first))]
 pub fn weigh_open(
     settings: Settings,
     queue: &[u64],
@@ -39,10 +40,10 @@ pub fn weigh_open(
     ensures { result ≡ weigh_open settings queue.now capture.now pool.now samples.now rate extent }
 {
     let frames = bank::frames_of(samples);
-    let ranged = session::settings_ok(settings);
-    let rated = bank::rate_ok(rate);
-    let lasts = bank::extent_ok(Kind::Song(extent), frames);
-    if !(ranged & rated & lasts) {
+    if !(session::settings_ok(settings)
+        && bank::rate_ok(rate)
+        && bank::extent_ok(Kind::Song(extent), frames))
+    {
         return Err(Refusal::OutOfRange);
     }
     if !session::stores_ok(settings, queue, capture) {
@@ -80,16 +81,13 @@ fn stage_at(h: Handle) -> Stage
         looped: None,
         laps: 0,
     };
-    let master = Ramp::new(1.0);
-    let fade = Fade { tail: None };
-    let voices = Voices::none();
     Stage {
         clock: ClockFrame(0),
         playhead: Playhead { transport, song: h },
         sound: Sound {
-            master,
-            fade,
-            voices,
+            master: Ramp::new(1.0),
+            fade: Fade { tail: None },
+            voices: Voices::none(),
         },
         counters: Counters {
             executed: 0,
@@ -103,20 +101,18 @@ fn stage_at(h: Handle) -> Stage
 pub fn session_at(settings: Settings, bank: Bank, h: Handle) -> Session
     ensures { result ≡ session_of settings bank h }
 {
-    let stage = stage_at(h);
-    let desk = Desk {
-        number: 0,
-        deepest: 0,
-        dropped: 0,
-        capturing: false,
-        captured: 0,
-    };
     Session {
         settings,
         bank,
-        stage,
+        stage: stage_at(h),
         queued: 0,
-        desk,
+        desk: Desk {
+            number: 0,
+            deepest: 0,
+            dropped: 0,
+            capturing: false,
+            captured: 0,
+        },
     }
 }
 
@@ -131,12 +127,11 @@ pub fn no_session() -> Session
         capture: 0,
         pool: 0,
     };
-    let h = Handle { slot: 0, serial: 0 };
-    let bank = Bank::empty();
-    session_at(settings, bank, h)
+    session_at(settings, Bank::empty(), Handle { slot: 0, serial: 0 })
 }
 
 /// The first song goes to slot 0 and to the pool's start.
+#[tactic(auto, using(bank::proofs::Slots::none_used), unfolding(bank::specs::Slots::empty_bank))]
 fn open_song(
     settings: Settings,
     pool: &mut [f32],
@@ -153,20 +148,19 @@ fn open_song(
         serial: 1,
         kind: Kind::Song(extent),
         start: 0,
-        frames: frames,
-        rate: rate,
+        frames,
+        rate,
     };
     let h = Handle { slot: 0, serial: 1 };
-    let empty = Bank::empty();
-    let bank = bank::place(empty, 0, clip);
-    let session = session_at(settings, bank, h);
+    let bank = bank::place(Bank::empty(), 0, clip);
     Answered {
         answer: Ok(h),
-        session,
+        session: session_at(settings, bank, h),
     }
 }
 
 /// Opening loads the first song, stopped at 0, gain 1.0.
+#[tactic(auto, using(crate::proofs::Opened::open_ready), unfolding(crate::specs::Open::open_of, session::specs::Refusal::unless))]
 pub fn open(
     settings: Settings,
     queue: &[u64],
@@ -178,8 +172,7 @@ pub fn open(
 ) -> Answered<Handle>
     ensures { ◌≡◌ {A = Answered Handle × List Float} (result, pool.new) (open_of settings queue.now capture.now pool.old samples.now rate extent) }
 {
-    let weighed = weigh_open(settings, queue, capture, pool, samples, rate, extent);
-    match weighed {
+    match weigh_open(settings, queue, capture, pool, samples, rate, extent) {
         Err(k) => Answered {
             answer: Err(k),
             session: no_session(),
@@ -191,6 +184,7 @@ pub fn open(
 // ---- load
 
 /// 1, 2, 3, 5, 6, 7, 8, 9, 10.
+#[tactic(auto, using(bank::proofs::Fit::start_none, crate::proofs::Loaded::whole_frames), unfolding(crate::specs::Load::weigh_load, session::specs::Refusal::first))]
 pub fn weigh_load(
     s: Session,
     queue: &[u64],
@@ -205,8 +199,7 @@ pub fn weigh_load(
     if !session::well_formed(s, queue, capture) {
         return Err(Refusal::NotWellFormed);
     }
-    let settings = s.settings;
-    if !bank::is_pool(pool, settings.pool) {
+    if !bank::is_pool(pool, s.settings.pool) {
         return Err(Refusal::PoolLength);
     }
     if bank::is_odd(samples) {
@@ -219,19 +212,16 @@ pub fn weigh_load(
         return Err(Refusal::BadSample);
     }
     let frames = bank::frames_of(samples);
-    let rated = bank::rate_ok(rate);
-    let lasts = bank::extent_ok(kind, frames);
-    if !(rated & lasts) {
+    if !(bank::rate_ok(rate) && bank::extent_ok(kind, frames)) {
         return Err(Refusal::OutOfRange);
     }
-    let b = s.bank;
-    if b.used == 0xffff_ffff {
+    if s.bank.used == 0xffff_ffff {
         return Err(Refusal::SlotsUsed);
     }
-    if b.last == 0xffff_ffff {
+    if s.bank.last == 0xffff_ffff {
         return Err(Refusal::SerialsSpent);
     }
-    if bank::first_fit(b, settings.pool, frames).is_none() {
+    if bank::first_fit(s.bank, s.settings.pool, frames).is_none() {
         return Err(Refusal::NoRoom);
     }
     Ok(())
@@ -239,6 +229,7 @@ pub fn weigh_load(
 
 /// Loading takes the lowest free slot and the lowest start in the pool where the clip meets no loaded clip; it copies the clip
 /// there and touches no other sample.
+#[tactic(auto, using(bank::proofs::Slots::free_slot_law, bank::proofs::Slots::free_slot_free))]
 fn load_clip(
     s: Session,
     pool: &mut [f32],
@@ -249,31 +240,27 @@ fn load_clip(
     requires { (s.bank.used ≡ 2 ^ 32 - 1 → ⊥) × (s.bank.last ≡ 2 ^ 32 - 1 → ⊥) × (1 ≤ frames_of samples.now) × (start_for s samples.now * 2 + length samples.now ≤ length pool.old) }
     ensures { ◌≡◌ {A = Answered Handle × List Float} (result, pool.new) (load_done s pool.old samples.now kind rate) }
 {
-    let b = s.bank;
     let frames = bank::frames_of(samples);
-    let start = bank::first_fit(b, s.settings.pool, frames).unwrap();
-    let at = (start * 2) as usize;
-    bank::paste(pool, at, samples);
-    let slot = bank::free_slot(b.used);
-    let serial = b.last + 1;
+    let start = bank::first_fit(s.bank, s.settings.pool, frames).unwrap();
+    bank::paste(pool, (start * 2) as usize, samples);
+    let slot = bank::free_slot(s.bank.used);
+    let serial = s.bank.last + 1;
     let clip = Clip {
-        serial: serial,
-        kind: kind,
-        start: start,
-        frames: frames,
-        rate: rate,
+        serial,
+        kind,
+        start,
+        frames,
+        rate,
     };
-    let loaded = bank::place(b, slot, clip);
-    let mut session = s;
-    session.bank = loaded;
-    let h = Handle { slot, serial };
+    let bank = bank::place(s.bank, slot, clip);
     Answered {
-        answer: Ok(h),
-        session,
+        answer: Ok(Handle { slot, serial }),
+        session: Session { bank, ..s },
     }
 }
 
 /// Loads a clip, or says why not.
+#[tactic(auto, using(crate::proofs::Loaded::load_ready), unfolding(crate::specs::Load::load_of, session::specs::Refusal::unless))]
 pub fn load(
     s: Session,
     queue: &[u64],
@@ -285,8 +272,7 @@ pub fn load(
 ) -> Answered<Handle>
     ensures { ◌≡◌ {A = Answered Handle × List Float} (result, pool.new) (load_of s queue.now capture.now pool.old samples.now kind rate) }
 {
-    let weighed = weigh_load(s, queue, capture, pool, samples, kind, rate);
-    match weighed {
+    match weigh_load(s, queue, capture, pool, samples, kind, rate) {
         Err(k) => Answered {
             answer: Err(k),
             session: s,
@@ -305,6 +291,7 @@ fn tail_holds(h: Handle, tail: Option<Tail>) -> bool
 }
 
 /// A voice is.
+#[tactic(auto, using(counts::proofs::Below::any_false))]
 fn voices_hold(h: Handle, voices: Voices) -> bool
     requires { voices.count ≤ 16 }
     ensures { result ≡ any_below voices.count (λ i. same_handle h (voice_at voices i).handle) }
@@ -318,37 +305,30 @@ fn voices_hold(h: Handle, voices: Voices) -> bool
 }
 
 /// Song, tail or voice holds it.
+#[tactic(auto, unfolding(crate::specs::Retire::stage_holds))]
 fn stage_holds(h: Handle, stage: Stage) -> bool
     requires { stage.sound.voices.count ≤ 16 }
     ensures { result ≡ stage_holds h stage }
 {
-    let playhead = stage.playhead;
-    let song = playhead.song;
-    let sound = stage.sound;
-    let fade = sound.fade;
-    let tail = fade.tail;
-    let voices = sound.voices;
-    let by_song = h == song;
-    let by_tail = tail_holds(h, tail);
-    let by_voice = voices_hold(h, voices);
-    by_song | by_tail | by_voice
+    h == stage.playhead.song
+        || tail_holds(h, stage.sound.fade.tail)
+        || voices_hold(h, stage.sound.voices)
 }
 
 /// A clip is held by song, tail, voice, queue or running capture.
+#[tactic(auto, unfolding(crate::specs::Retire::held_now))]
 fn held_now(s: Session, queue: &[u64], capture: &[u64], h: Handle) -> bool
     requires { (s.stage.sound.voices.count ≤ 16) × (s.queued * 5 ≤ length queue.now) × (captured_now s.desk * 5 ≤ length capture.now) }
     ensures { result ≡ held_now s queue.now capture.now h }
 {
-    let stage = s.stage;
-    let desk = s.desk;
-    let captured = session::captured_now(desk);
-    let by_stage = stage_holds(h, stage);
-    let by_queue = timeline::holds(queue, s.queued, h);
-    let by_capture = timeline::holds(capture, captured, h);
-    by_stage | by_queue | by_capture
+    let captured = session::captured_now(s.desk);
+    stage_holds(h, s.stage)
+        || timeline::holds(queue, s.queued, h)
+        || timeline::holds(capture, captured, h)
 }
 
 /// 1, 11, 19.
+#[tactic(auto, using(session::proofs::Parts::parts), unfolding(crate::specs::Retire::weigh_retire, session::specs::Refusal::first))]
 pub fn weigh_retire(s: Session, queue: &[u64], capture: &[u64], h: Handle) -> Result<(), Refusal>
     ensures { result ≡ weigh_retire s queue.now capture.now h }
 {
@@ -369,22 +349,21 @@ fn retire_clip(s: Session, h: Handle) -> Answered<()>
     requires { live s.bank h ≡ true }
     ensures { result ≡ answered (Ok tt) (with_bank s (retired_from s.bank h)) }
 {
-    let b = s.bank;
-    let left = bank::retire(b, h);
-    let mut session = s;
-    session.bank = left;
     Answered {
         answer: Ok(()),
-        session,
+        session: Session {
+            bank: bank::retire(s.bank, h),
+            ..s
+        },
     }
 }
 
 /// Retires a clip, or says why not.
+#[tactic(auto, unfolding(crate::specs::Retire::retire_of, crate::specs::Retire::weigh_retire, session::specs::Refusal::first, session::specs::Refusal::unless))]
 pub fn retire(s: Session, queue: &[u64], capture: &[u64], h: Handle) -> Answered<()>
     ensures { result ≡ retire_of s queue.now capture.now h }
 {
-    let weighed = weigh_retire(s, queue, capture, h);
-    match weighed {
+    match weigh_retire(s, queue, capture, h) {
         Err(k) => Answered {
             answer: Err(k),
             session: s,
@@ -396,17 +375,16 @@ pub fn retire(s: Session, queue: &[u64], capture: &[u64], h: Handle) -> Answered
 // ---- a session's own list
 
 /// The word of a slot: the handle of its clip, none where it is free.
+#[tactic(auto, unfolding(crate::specs::Own::slot_word))]
 fn slot_word(b: Bank, i: usize) -> u64
     requires { i < 32 }
     ensures { result ≡ slot_word b i }
 {
     if bank::is_used(b.used, i) {
-        let c = bank::clip_in(b, i);
-        let h = Handle {
+        return timeline::handle_word(Handle {
             slot: i as u32,
-            serial: c.serial,
-        };
-        return timeline::handle_word(h);
+            serial: bank::clip_in(b, i).serial,
+        });
     }
     0
 }

@@ -1,5 +1,5 @@
 -- `own_list` meets its contract.
-use mathlib.Core.Path.{refl, sym, ◌∙◌}
+use mathlib.Core.Path.{sym, ◌∙◌}
 use native.Mathlib.Omega.{arith}
 use lib.ListN.{length-set}
 use Rattle.bank.proofs.Places.{copy_step, copy_done}
@@ -7,9 +7,6 @@ use Rattle.clips.specs.Own.{clips_of}
 use Rattle.clips.proofs.Own.{word_at, own_length}
 use borrow.Author.Rules.{rules}
 use Rattle.clips.proofs.own_list.Goals as goal
-
-pub loop-i-init : goal.loop-i-init
-loop-i-init c = (search rules, refl, refl)
 
 pub loop-i-preserved : goal.loop-i-preserved
 loop-i-preserved c =

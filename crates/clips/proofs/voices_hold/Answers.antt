@@ -2,12 +2,10 @@
 use mathlib.Core.Path.{◌≡◌, sym, ap, ◌∙◌}
 use Prim.Native.Nat.{ℕ, ◌<◌}
 use native.Mathlib.Omega.{arith}
-use borrow.Author.Count.{below_none, below_more}
-use borrow.Author.Rules.{rules}
 use lib.ListN.{length, get_or}
 use Rattle.counts.specs.declared.Handle.{Handle}
 use Rattle.counts.specs.Handles.{same_handle}
-use Rattle.counts.proofs.Below.{any_true, any_false}
+use Rattle.counts.proofs.Below.{any_true}
 use Rattle.bank.proofs.Places.{get_d_any}
 use Rattle.oneshot.specs.declared.Voice.{Voice}
 use Rattle.oneshot.specs.declared.Voices.{Voices}
@@ -17,14 +15,5 @@ use Rattle.clips.proofs.voices_hold.Goals as goal
 at : (h : Handle) (vs : Voices) (i : ℕ) (d : Voice) → i < length vs.table → same_handle h (voice_at vs i).handle ≡ same_handle h (get_or vs.table i d).handle
 at h vs i d l = ap (λ (v : Voice). same_handle h v.handle) (get_d_any vs.table i blank_voice d l)
 
-pub loop-i-init : goal.loop-i-init
-loop-i-init c = (search rules, below_none _)
-
 pub returns-then-eq : goal.returns-then-eq
 returns-then-eq c = sym (any_true _ _ c.loop-i.i c.loop-i-test.true (at c.args.h c.args.voices c.loop-i.i _ (omega arith) ∙ sym c.eq.ensures ∙ c.if-eq.true))
-
-pub loop-i-preserved : goal.loop-i-preserved
-loop-i-preserved c = (search rules, below_more _ _ c.loop-i.invariant.1 (at c.args.h c.args.voices c.loop-i.i _ (omega arith) ∙ sym c.eq.ensures ∙ c.if-eq.false))
-
-pub returns : goal.returns
-returns c = sym (any_false _ _ (λ k l. c.loop-i.invariant.1 k (omega arith)))
