@@ -33,11 +33,9 @@ pub struct Run {
 pub fn blind(p: Playhead) -> Playhead
     ensures { result ≡ blind p }
 {
-    let song = p.song;
-    let t = p.transport;
     Playhead {
-        transport: t.blindly(),
-        song: song,
+        transport: p.transport.blindly(),
+        ..p
     }
 }
 
@@ -46,9 +44,7 @@ pub fn length_in(b: Bank, h: Handle) -> SongFrame
     ensures { result.0 ≡ lengths_in b h }
 {
     if h.slot < 32 {
-        let clip = bank::clip_of(b, h);
-        let kind = clip.kind;
-        return bank::extent_of(kind);
+        return bank::extent_of(bank::clip_of(b, h).kind);
     }
     SongFrame(0)
 }
@@ -71,62 +67,48 @@ fn tell(sheet: &mut [u64], i: usize, x: Row, y: Row)
     requires { i * 10 + 10 ≤ length sheet.old }
     ensures { sheet.new ≡ put_row (put_row sheet.old (i * 2) x) (i * 2 + 1) y }
 {
-    let p = i * 2;
-    timeline::put_row(sheet, p, x);
-    timeline::put_row(sheet, p + 1, y);
+    timeline::put_row(sheet, i * 2, x);
+    timeline::put_row(sheet, i * 2 + 1, y);
 }
 
 /// Executes the first queued command, which leaves the queue and goes onto the sheet.
+#[tactic(auto, unfolding(crate::specs::Dry::dry_exec))]
 fn execute_first(run: Run, bank: Bank, queue: &[u64], sheet: &mut [u64]) -> Run
     requires { Executable run queue.now (length sheet.old) }
     ensures { (result ≡ first_run bank queue.now run) × (sheet.new ≡ put_told sheet.old run.rows (first_told bank queue.now run)) }
 {
-    let dry = run.dry;
-    let playhead = dry.playhead;
-    let extent = length_in(bank, playhead.song);
+    let Dry { clock, playhead } = run.dry;
     let first = timeline::first(queue, run.queued);
-    let command = first.command;
-    let next = playhead.execute(extent, command);
-    let clock = dry.clock;
-    let from = playhead.transport;
-    let to = next.transport;
-    let x = timeline::row_of(first);
-    let y = did(clock, from, to);
-    tell(sheet, run.rows, x, y);
-    let queued = run.queued - 1;
-    let rows = run.rows + 1;
+    let next = playhead.execute(length_in(bank, playhead.song), first.command);
+    let done = did(clock, playhead.transport, next.transport);
+    tell(sheet, run.rows, timeline::row_of(first), done);
     Run {
         dry: Dry {
-            clock: clock,
+            clock,
             playhead: blind(next),
         },
-        queued: queued,
-        rows: rows,
+        queued: run.queued - 1,
+        rows: run.rows + 1,
     }
 }
 
 /// So many frames at once, at which nothing is due.
+#[tactic(auto, unfolding(crate::specs::Run::dry_leap))]
 fn stretch(run: Run, bank: Bank, frames: usize) -> Run
     requires { Stretchable run bank frames }
     ensures { result ≡ leap_run bank frames run }
 {
-    let dry = run.dry;
-    let playhead = dry.playhead;
-    let song = playhead.song;
-    let extent = length_in(bank, song);
-    let t = playhead.transport;
-    let next = t.leap(extent, frames as u64);
-    let clock = dry.clock.0 + frames as u64;
+    let Dry { clock, playhead } = run.dry;
+    let extent = length_in(bank, playhead.song);
     Run {
         dry: Dry {
-            clock: ClockFrame(clock),
+            clock: ClockFrame(clock.0 + frames as u64),
             playhead: Playhead {
-                transport: next,
-                song: song,
+                transport: playhead.transport.leap(extent, frames as u64),
+                ..playhead
             },
         },
-        queued: run.queued,
-        rows: run.rows,
+        ..run
     }
 }
 

@@ -10,12 +10,16 @@ use Rattle.counts.proofs.Truth.{not_true, not_false, or_false}
 use Rattle.timeline.specs.declared.Command.{Command}
 use Rattle.timeline.specs.Command.{claim_of, takes_voice, gain_ok, is_senseless}
 use Rattle.timeline.specs.Queue.{stingers}
+use Rattle.bank.specs.declared.Stands.{Stands}
 use Rattle.bank.specs.Slots.{claim_ok}
 use Rattle.session.specs.declared.Session.{Session}
+use Rattle.session.specs.declared.Refusal.{Refusal}
+use Rattle.session.specs.Refusal.{first}
 use Rattle.session.specs.WellFormed.{held}
 use Rattle.session.proofs.Refuse.{passed}
+use Rattle.submission.specs.declared.Scales.{Scales}
 use Rattle.submission.specs.Weigh.{weigh_command, capture_room, scales_of, stands_now}
-use Rattle.std.specs.Prelude.{Ok}
+use Rattle.std.specs.Prelude.{Ok, Err}
 
 -- what a command has that a session takes; its capture has room if `spare`
 pub record Fits (s : Session) (q : List ℕ) (spare : Bool) (x : Command) : Type 0 where
@@ -26,6 +30,11 @@ pub record Fits (s : Session) (q : List ℕ) (spare : Bool) (x : Command) : Type
   pub room : spare ≡ true
   pub voice : takes_voice (claim_of x) ≡ true → stingers q s.queued + s.stage.sound.voices.count ≢ 16
   pub number : s.desk.number ≢ 2 ^ 64 - 1
+
+-- a gain that 14 refuses is refused before all else
+pub bad_gain : (w : Scales) (h : Stands) (x : Command) → gain_ok x ≡ false → weigh_command w h x ≡ Err Refusal.BadGain
+unfolding weigh_command first
+bad_gain w h x e = rw e
 
 module _ (s : Session) (q : List ℕ) (spare : Bool) (x : Command) where
   -- a command that weighs Fine fits

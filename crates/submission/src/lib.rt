@@ -3,10 +3,12 @@
 
 ghost use Rattle.std.specs.Prelude.{◌≡◌, true, cond, List, ℕ, ◌+◌, ◌-◌, ◌*◌, ◌^◌, ◌≤◌, ◌<◌, max, length, Ok, Err};
 ghost use Rattle.timeline.specs.Command.{gain_ok};
+ghost use Rattle.timeline.specs.Record.{readable, read_of, record_of};
 ghost use Rattle.timeline.specs.Store.{put_row};
 ghost use Rattle.timeline.specs.Queue.{stingers};
 ghost use Rattle.session.specs.declared.Session.{Session};
 ghost use Rattle.session.specs.Session.{desk_of, with_queue, captured_now, turned_away};
+ghost use Rattle.session.specs.declared.Refusal.{Refusal};
 ghost use Rattle.session.specs.Refusal.{unless};
 ghost use Rattle.session.specs.WellFormed.{well_formed};
 ghost use Rattle.session.specs.declared.Answered.{Answered};
@@ -55,6 +57,7 @@ pub struct ReplayState {
 // ---- weighing a command
 
 /// 14, 22, 11, 12, 13, 15, 16, 17, 18: a command, against what its handle stands for and the scales.
+#[tactic(auto, unfolding(crate::specs::Weigh::weigh_command, session::specs::Refusal::first))]
 fn weigh_command(w: Scales, stands: Stands, x: Command) -> Result<(), Refusal>
     ensures { result ≡ weigh_command w stands x }
 {
@@ -80,8 +83,7 @@ fn weigh_command(w: Scales, stands: Stands, x: Command) -> Result<(), Refusal>
     if !w.room {
         return Err(Refusal::CaptureFull);
     }
-    let voice = timeline::takes_voice(claim);
-    if voice & (w.stingers == 16) {
+    if timeline::takes_voice(claim) && w.stingers == 16 {
         return Err(Refusal::VoicesTaken);
     }
     if w.number == u64::MAX {
@@ -94,8 +96,7 @@ fn weigh_command(w: Scales, stands: Stands, x: Command) -> Result<(), Refusal>
 fn capture_room(s: Session) -> bool
     ensures { result ≡ capture_room s }
 {
-    let d = s.desk;
-    !(d.capturing & (s.settings.capture <= d.captured))
+    !(s.desk.capturing && s.settings.capture <= s.desk.captured)
 }
 
 /// The scales of a session with its queue.
@@ -103,15 +104,12 @@ fn scales_of(s: Session, queue: &[u64], room: bool) -> Scales
     requires { (s.queued * 5 ≤ length queue.now) × (stingers queue.now s.queued + s.stage.sound.voices.count ≤ 16) }
     ensures { result ≡ scales_of s queue.now room }
 {
-    let queued = timeline::count_stingers(queue, s.queued);
-    let sounding = s.stage.sound.voices.count;
-    let stingers = queued + sounding;
     Scales {
         rate: s.settings.rate,
         depth: s.queued,
         capacity: s.settings.queue,
         room,
-        stingers,
+        stingers: timeline::count_stingers(queue, s.queued) + s.stage.sound.voices.count,
         number: s.desk.number,
     }
 }
@@ -120,14 +118,13 @@ fn scales_of(s: Session, queue: &[u64], room: bool) -> Scales
 fn stands_now(s: Session, x: Command) -> Stands
     ensures { result ≡ stands_now s x }
 {
-    let b = s.bank;
-    let claim = x.claim();
-    bank::stands_in(b, claim)
+    bank::stands_in(s.bank, x.claim())
 }
 
 // ---- the ordinary submission
 
 /// 1, then the command.
+#[tactic(auto, using(crate::proofs::Ready::scales_ready), unfolding(crate::specs::Submit::weigh_submit, session::specs::Refusal::first))]
 fn weigh_submit(s: Session, queue: &[u64], capture: &[u64], x: Submission) -> Result<(), Refusal>
     ensures { result ≡ weigh_submit s queue.now capture.now x }
 {
@@ -135,10 +132,8 @@ fn weigh_submit(s: Session, queue: &[u64], capture: &[u64], x: Submission) -> Re
         return Err(Refusal::NotWellFormed);
     }
     let command = Command::from(x);
-    let room = capture_room(s);
-    let scales = scales_of(s, queue, room);
-    let stands = stands_now(s, command);
-    weigh_command(scales, stands, command)
+    let scales = scales_of(s, queue, capture_room(s));
+    weigh_command(scales, stands_now(s, command), command)
 }
 
 /// A capture that is on takes a record more; gives how many it then has.
@@ -154,35 +149,28 @@ fn append(capture: &mut [u64], d: Desk, x: Row) -> usize
 }
 
 /// A submission takes the next number and raises the deepest depth; a capture that is on records it.
+#[tactic(auto, using(crate::proofs::Ready::take_gain, crate::proofs::Ready::take_number, crate::proofs::Ready::take_queue, crate::proofs::Ready::take_capture), unfolding(crate::specs::Submit::taken))]
 fn take(s: Session, queue: &mut [u64], capture: &mut [u64], x: Command, at: At) -> Answered<u64>
     requires { (well_formed s queue.old capture.old ≡ true) × (weigh_command (scales_of s queue.old (capture_room s)) (stands_now s x) x ≡ Ok tt) }
     ensures { ◌≡◌ {A = Answered ℕ × List ℕ × List ℕ} (result, queue.new, capture.new) (taken s queue.old capture.old x at) }
 {
-    let d = s.desk;
-    let transport = s.stage.playhead.transport;
-    let clock = s.clock();
-    let due = transport.deadline(clock, at);
-    let number = d.number + 1;
-    let r = QueueRecord {
-        at: due,
+    let number = s.desk.number + 1;
+    let row = timeline::row_of(QueueRecord {
+        at: s.stage.playhead.transport.deadline(s.clock(), at),
         number,
         command: x,
-    };
-    let row = timeline::row_of(r);
+    });
     timeline::insert(queue, s.queued, row);
-    let captured = append(capture, d, row);
-    let depth = s.queued + 1;
-    let deepest = d.deepest.max(depth);
-    let mut d = d;
-    d.number = number;
-    d.deepest = deepest;
-    d.captured = captured;
-    let mut s = s;
-    s.queued = depth;
-    s.desk = d;
+    let queued = s.queued + 1;
+    let desk = Desk {
+        number,
+        deepest: s.desk.deepest.max(queued),
+        captured: append(capture, s.desk, row),
+        ..s.desk
+    };
     Answered {
         answer: Ok(number),
-        session: s,
+        session: Session { queued, desk, ..s },
     }
 }
 
@@ -190,14 +178,14 @@ fn take(s: Session, queue: &mut [u64], capture: &mut [u64], x: Command, at: At) 
 fn refuse(s: Session, k: Refusal) -> Answered<u64>
     ensures { result ≡ answered (Err k) (turned_away k s) }
 {
-    let session = session::turned_away(k, s);
     Answered {
         answer: Err(k),
-        session,
+        session: session::turned_away(k, s),
     }
 }
 
 /// The ordinary submission takes the nine kinds that are no Transition. A refused one takes no number.
+#[tactic(auto, unfolding(crate::specs::Submit::submit_of, crate::specs::Submit::weigh_submit, session::specs::Refusal::first, session::specs::Refusal::unless))]
 pub fn submit(
     s: Session,
     queue: &mut [u64],
@@ -207,8 +195,7 @@ pub fn submit(
 ) -> Answered<u64>
     ensures { ◌≡◌ {A = Answered ℕ × List ℕ × List ℕ} (result, queue.new, capture.new) (submit_of s queue.old capture.old x at) }
 {
-    let weighed = weigh_submit(s, &queue[..], &capture[..], x);
-    match weighed {
+    match weigh_submit(s, &queue[..], &capture[..], x) {
         Ok(()) => take(s, queue, capture, Command::from(x), at),
         Err(k) => refuse(s, k),
     }
@@ -220,26 +207,23 @@ pub fn submit(
 fn with_counts(s: Session, queued: usize, captured: usize) -> Session
     ensures { result ≡ with_queue s queued (desk_of s.desk.number s.desk.deepest s.desk.dropped s.desk.capturing captured) }
 {
-    let mut d = s.desk;
-    d.captured = captured;
-    let mut s = s;
-    s.queued = queued;
-    s.desk = d;
-    s
+    Session {
+        queued,
+        desk: Desk { captured, ..s.desk },
+        ..s
+    }
 }
 
 /// The session as if every queued Transition and its capture record had gone.
+#[tactic(auto, using(timeline::proofs::Queue::dropped_and_left, timeline::proofs::Queue::gone_and_left))]
 fn cleared(s: Session, queue: &[u64], capture: &[u64]) -> Session
     requires { (s.queued * 5 ≤ length queue.now) × (captured_now s.desk * 5 ≤ length capture.now) }
     ensures { result ≡ cleared s queue.now capture.now }
 {
-    let d = s.desk;
-    let captured = session::captured_now(d);
+    let captured = session::captured_now(s.desk);
     let older = timeline::count_transitions(queue, s.queued);
     let recorded = timeline::count_would_go(capture, captured, queue, s.queued);
-    let queued = s.queued - older;
-    let left = captured - recorded;
-    with_counts(s, queued, left)
+    with_counts(s, s.queued - older, captured - recorded)
 }
 
 /// Takes out every queued Transition and its capture record.
@@ -247,14 +231,14 @@ fn clear(s: Session, queue: &mut [u64], capture: &mut [u64]) -> Session
     requires { (s.queued * 5 ≤ length queue.old) × (captured_now s.desk * 5 ≤ length capture.old) }
     ensures { ◌≡◌ {A = Session × List ℕ × List ℕ} (result, queue.new, capture.new) (cleared s queue.old capture.old, (cleared_queue s queue.old).words, (cleared_capture s queue.old capture.old).words) }
 {
-    let d = s.desk;
-    let captured = session::captured_now(d);
+    let captured = session::captured_now(s.desk);
     let left = timeline::drop_captured(capture, captured, &queue[..], s.queued);
     let queued = timeline::drop_transitions(queue, s.queued);
     with_counts(s, queued, left)
 }
 
 /// 1, then the command, with 15 and 16 weighed as if the older ones had gone.
+#[tactic(auto, using(timeline::proofs::Queue::stingers_dropped, crate::proofs::Ready::scales_ready, crate::proofs::Ready::clear_ready), unfolding(crate::specs::Transition::weigh_transition, session::specs::Refusal::first))]
 fn weigh_transition(s: Session, queue: &[u64], capture: &[u64], f: SongFrame) -> Result<(), Refusal>
     ensures { result ≡ weigh_transition s queue.now capture.now f }
 {
@@ -262,13 +246,15 @@ fn weigh_transition(s: Session, queue: &[u64], capture: &[u64], f: SongFrame) ->
         return Err(Refusal::NotWellFormed);
     }
     let z = cleared(s, queue, capture);
-    let room = capture_room(z);
-    let mut scales = scales_of(s, queue, room);
-    scales.depth = z.queued;
+    let scales = Scales {
+        depth: z.queued,
+        ..scales_of(s, queue, capture_room(z))
+    };
     weigh_command(scales, Stands::Nothing, Command::Transition(f))
 }
 
 /// The transition call first takes out every queued Transition and its capture record; refused, it drops none.
+#[tactic(auto, using(crate::proofs::Ready::clear_ready), unfolding(crate::specs::Transition::transition_of, crate::specs::Transition::weigh_transition, session::specs::Refusal::first, session::specs::Refusal::unless))]
 pub fn transition(
     s: Session,
     queue: &mut [u64],
@@ -278,8 +264,7 @@ pub fn transition(
 ) -> Answered<u64>
     ensures { ◌≡◌ {A = Answered ℕ × List ℕ × List ℕ} (result, queue.new, capture.new) (transition_of s queue.old capture.old f at) }
 {
-    let weighed = weigh_transition(s, &queue[..], &capture[..], f);
-    match weighed {
+    match weigh_transition(s, &queue[..], &capture[..], f) {
         Ok(()) => {
             let z = clear(s, &mut queue[..], &mut capture[..]);
             take(z, queue, capture, Command::Transition(f), at)
@@ -290,21 +275,25 @@ pub fn transition(
 
 // ---- replay
 
+/// The record of a row: 21 where it is unreadable, 14 where its gain is refused.
+fn read_row(x: Row) -> Result<QueueRecord, Refusal>
+    ensures { result ≡ cond (readable x) (cond (gain_ok (read_of x)) (Ok (record_of x)) (Err Refusal.BadGain)) (Err Refusal.Unreadable) }
+{
+    match timeline::read(x) {
+        Ok(r) => Ok(r),
+        Err(Misread::Unreadable) => Err(Refusal::Unreadable),
+        Err(Misread::GainRefused) => Err(Refusal::BadGain),
+    }
+}
+
 /// 21, then as a submission without 16: there is always room.
+#[tactic(auto, using(crate::proofs::Weigh::bad_gain), unfolding(crate::specs::Replay::weigh_replayed, session::specs::Refusal::first))]
 pub fn weigh_replayed(s: Session, queue: &[u64], x: Row) -> Result<(), Refusal>
     requires { (s.queued * 5 ≤ length queue.now) × (stingers queue.now s.queued + s.stage.sound.voices.count ≤ 16) }
     ensures { result ≡ weigh_replayed s queue.now x }
 {
-    match timeline::read(x) {
-        Err(Misread::Unreadable) => Err(Refusal::Unreadable),
-        Err(Misread::GainRefused) => Err(Refusal::BadGain),
-        Ok(r) => {
-            let command = r.command;
-            let scales = scales_of(s, queue, true);
-            let stands = stands_now(s, command);
-            weigh_command(scales, stands, command)
-        }
-    }
+    let command = read_row(x)?.command;
+    weigh_command(scales_of(s, queue, true), stands_now(s, command), command)
 }
 
 /// A refused record is skipped: counted as queue-full, or otherwise.
@@ -312,14 +301,18 @@ fn skip(z: ReplayState, k: Refusal) -> ReplayState
     requires { Countable z.report }
     ensures { (q : List ℕ) → standing result q ≡ skipped_by (standing z q) k }
 {
-    let s = z.session;
-    let session = session::turned_away(k, s);
-    let mut report = z.report;
-    if k.number() == 15 {
-        report.full = report.full + 1;
-        return ReplayState { session, report };
-    }
-    report.skipped = report.skipped + 1;
+    let session = session::turned_away(k, z.session);
+    let report = if k.number() == 15 {
+        Report {
+            full: z.report.full + 1,
+            ..z.report
+        }
+    } else {
+        Report {
+            skipped: z.report.skipped + 1,
+            ..z.report
+        }
+    };
     ReplayState { session, report }
 }
 
@@ -328,55 +321,50 @@ fn take_recorded(z: ReplayState, queue: &mut [u64], r: QueueRecord) -> ReplaySta
     requires { Countable z.report × (z.session.queued * 5 + 5 ≤ length queue.old) × (z.session.desk.number < 2 ^ 64 - 1) × (gain_ok r.command ≡ true) }
     ensures { standing result queue.new ≡ taken_by (standing z queue.old) r }
 {
-    let mut s = z.session;
-    let mut d = s.desk;
-    let next = d.number + 1;
-    let at = r.at;
-    let command = r.command;
-    let numbered = QueueRecord {
-        at,
-        number: next,
-        command,
-    };
-    let row = timeline::row_of(numbered);
+    let s = z.session;
+    let number = s.desk.number + 1;
+    let row = timeline::row_of(QueueRecord { number, ..r });
     timeline::insert(queue, s.queued, row);
-    d.number = next;
-    s.queued = s.queued + 1;
-    s.desk = d;
-    let mut report = z.report;
-    report.taken = report.taken + 1;
-    ReplayState { session: s, report }
+    ReplayState {
+        session: Session {
+            queued: s.queued + 1,
+            desk: Desk { number, ..s.desk },
+            ..s
+        },
+        report: Report {
+            taken: z.report.taken + 1,
+            ..z.report
+        },
+    }
 }
 
 /// A recorded command, weighed as a submission without 16: skipped if it is refused, else taken.
+#[tactic(auto, using(crate::proofs::Weigh::fine_fits, crate::proofs::Weigh::number_left, crate::proofs::Ready::record_room), unfolding(session::specs::Refusal::unless))]
 fn replay_record(z: ReplayState, queue: &mut [u64], r: QueueRecord) -> ReplayState
     requires { RowReady (standing z queue.old) × (gain_ok r.command ≡ true) }
     ensures { standing result queue.new ≡ unless (weigh_command (scales_of z.session queue.old true) (stands_now z.session r.command) r.command) (skipped_by (standing z queue.old)) (taken_by (standing z queue.old) r) }
 {
-    let s = z.session;
-    let command = r.command;
-    let scales = scales_of(s, &queue[..], true);
-    let stands = stands_now(s, command);
-    let weighed = weigh_command(scales, stands, command);
-    match weighed {
+    let scales = scales_of(z.session, &queue[..], true);
+    match weigh_command(scales, stands_now(z.session, r.command), r.command) {
         Ok(()) => take_recorded(z, queue, r),
         Err(k) => skip(z, k),
     }
 }
 
 /// One record: 21, then as a submission without 16.
+#[tactic(auto, using(crate::proofs::Weigh::bad_gain), unfolding(crate::specs::Replay::replay_row, crate::specs::Replay::weigh_replayed, session::specs::Refusal::first, session::specs::Refusal::unless))]
 pub fn replay_row(z: ReplayState, queue: &mut [u64], x: Row) -> ReplayState
     requires { RowReady (standing z queue.old) }
     ensures { standing result queue.new ≡ replay_row (standing z queue.old) x }
 {
-    match timeline::read(x) {
-        Err(Misread::Unreadable) => skip(z, Refusal::Unreadable),
-        Err(Misread::GainRefused) => skip(z, Refusal::BadGain),
+    match read_row(x) {
         Ok(r) => replay_record(z, queue, r),
+        Err(k) => skip(z, k),
     }
 }
 
 /// Replay takes records in order at their frames; refused ones are skipped.
+#[tactic(auto, using(crate::proofs::Ready::row_ready, crate::proofs::Ready::replayed_more), unfolding(crate::specs::Replay::replay_of, crate::specs::Replay::replayed, session::specs::WellFormed::weigh_only, session::specs::Refusal::first, session::specs::Refusal::unless))]
 pub fn replay(s: Session, queue: &mut [u64], capture: &[u64], list: &[u64]) -> Answered<Report>
     ensures { ◌≡◌ {A = Answered Report × List ℕ} (result, queue.new) (replay_of s queue.old capture.now list.now) }
 {
@@ -394,13 +382,10 @@ pub fn replay(s: Session, queue: &mut [u64], capture: &[u64], list: &[u64]) -> A
     let mut z = ReplayState { session: s, report };
     let n = list.len() / 5;
     for i in 0..n {
-        let x = timeline::row_at(list, i);
-        z = replay_row(z, &mut queue[..], x);
+        z = replay_row(z, &mut queue[..], timeline::row_at(list, i));
     }
-    let report = z.report;
-    let session = z.session;
     Answered {
-        answer: Ok(report),
-        session,
+        answer: Ok(z.report),
+        session: z.session,
     }
 }
