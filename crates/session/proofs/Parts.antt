@@ -122,3 +122,7 @@ module _ (s : Session) (q c : List ℕ) where
         master = and_true (le-leb _ _ p.master) p.master_target;
         counts = and_true (le-leb _ _ p.executed) (le-leb _ _ p.special);
       })
+
+-- whose clock is not past its end
+pub clock_most : (s : Session) (q c : List ℕ) → well_formed s q c ≡ true → s.stage.clock.0 ≤ 2 ^ 62
+clock_most s q c formed = (parts s q c formed).clock

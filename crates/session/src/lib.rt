@@ -118,8 +118,7 @@ impl Session {
     pub fn is_live(self, h: Handle) -> bool
         ensures { result ≡ is_live_of self h }
     {
-        let b = self.bank;
-        bank::is_live(b, h)
+        bank::is_live(self.bank, h)
     }
 }
 
@@ -202,12 +201,9 @@ pub fn captured_now(d: Desk) -> usize
 pub fn extent_now(s: Session) -> SongFrame
     ensures { result.0 ≡ extent_now s }
 {
-    let b = s.bank;
     let h = s.song();
     if h.slot < 32 {
-        let c = bank::clip_of(b, h);
-        let kind = c.kind;
-        return bank::extent_of(kind);
+        return bank::extent_of(bank::clip_of(s.bank, h).kind);
     }
     SongFrame(0)
 }
@@ -220,16 +216,18 @@ pub fn one_more(n: u64) -> u64
 }
 
 /// A refused call leaves the session; 15 alone counts as dropped, and stops at 2^64 - 1.
+#[tactic(auto, unfolding(crate::specs::Session::turned_away))]
 pub fn turned_away(k: Refusal, s: Session) -> Session
     ensures { result ≡ turned_away k s }
 {
     if k.number() == 15 {
-        let mut t = s;
-        let mut d = s.desk;
-        let dropped = one_more(d.dropped);
-        d.dropped = dropped;
-        t.desk = d;
-        return t;
+        return Session {
+            desk: Desk {
+                dropped: one_more(s.desk.dropped),
+                ..s.desk
+            },
+            ..s
+        };
     }
     s
 }
@@ -237,67 +235,64 @@ pub fn turned_away(k: Refusal, s: Session) -> Session
 // ---- well formed
 
 /// A rate, a queue capacity, a capture capacity and a pool in their ranges, and a known mode.
+#[tactic(auto, unfolding(crate::specs::WellFormed::settings_ok))]
 pub fn settings_ok(x: Settings) -> bool
     ensures { result ≡ settings_ok x }
 {
-    let rate = bank::rate_ok(x.rate);
-    rate & ((1 <= x.queue) & (x.queue <= COMMAND_QUEUE_CAP))
-        & (x.capture <= COMMAND_QUEUE_CAP)
-        & ((1 <= x.pool) & (x.pool <= POOL_CAP))
-        & (x.mode <= HOUSE)
+    bank::rate_ok(x.rate)
+        && (1 <= x.queue && x.queue <= COMMAND_QUEUE_CAP)
+        && x.capture <= COMMAND_QUEUE_CAP
+        && (1 <= x.pool && x.pool <= POOL_CAP)
+        && x.mode <= HOUSE
 }
 
 /// The numbers are in range: the settings, the clock to 2^62, and no count passes its store.
 fn numbers_ok(x: Settings, clock: ClockFrame, queued: usize, captured: usize, voices: usize) -> bool
     ensures { result ≡ settings_ok x && leb clock.0 (2 ^ 62) && leb queued x.queue && leb captured x.capture && leb voices 16 }
 {
-    let settings = settings_ok(x);
-    settings
-        & (clock.0 <= CLOCK_END)
-        & (queued <= x.queue)
-        & (captured <= x.capture)
-        & (voices <= 16)
+    settings_ok(x)
+        && clock.0 <= CLOCK_END
+        && queued <= x.queue
+        && captured <= x.capture
+        && voices <= 16
 }
 
 /// A store has five words for each of n records, and no other length.
 fn is_store(store: &[u64], n: usize) -> bool
     ensures { result ≡ eqb (length store.now) (n * 5) }
 {
-    (store.len() % 5 == 0) & (store.len() / 5 == n)
+    store.len() % 5 == 0 && store.len() / 5 == n
 }
 
 /// Store sizes are exactly the capacities'.
+#[tactic(auto, unfolding(crate::specs::WellFormed::stores_ok))]
 pub fn stores_ok(x: Settings, queue: &[u64], capture: &[u64]) -> bool
     ensures { result ≡ stores_ok x queue.now capture.now }
 {
-    is_store(queue, x.queue) & is_store(capture, x.capture)
+    is_store(queue, x.queue) && is_store(capture, x.capture)
 }
 
 /// The song is held; position <= length; a loop as Loop allows.
 fn song_ok(used: u32, clip: Clip, rate: u32, p: Playhead) -> bool
     ensures { (b : Bank) → b.used ≡ used → (p.song.slot < 32 → clip_of b p.song ≡ clip) → result ≡ claim_ok b rate (Song p.song) && transport_fits (extent_of (clip_of b p.song).kind) p.transport }
 {
-    if !bank::song_held(used, clip, rate, p.song) {
-        return false;
-    }
-    p.transport.fits(bank::extent_of(clip.kind))
+    bank::song_held(used, clip, rate, p.song) && p.transport.fits(bank::extent_of(clip.kind))
 }
 
 /// The tail's clip is held, and its weight has 1 to 1,024 frames left, its target 0.
 fn tail_ok(used: u32, clip: Clip, rate: u32, h: Handle, w: Ramp) -> bool
     ensures { (b : Bank) → b.used ≡ used → (h.slot < 32 → clip_of b h ≡ clip) → result ≡ claim_ok b rate (Song h) && (within 1 tail_frames w.remaining && between zero32 zero32 w.target) }
 {
-    let stands = bank::song_held(used, clip, rate, h);
-    let target = ramp::is_between(0.0, 0.0, w.target);
-    stands & (((1 <= w.remaining) & (w.remaining <= stage::SWAP_FADE_FRAMES)) & target)
+    bank::song_held(used, clip, rate, h)
+        && ((1 <= w.remaining && w.remaining <= stage::SWAP_FADE_FRAMES)
+            && ramp::is_between(0.0, 0.0, w.target))
 }
 
 /// A voice: its clip held, its head even and inside the clip, at most the declick remaining, its target from 0 to 16.
 fn voice_ok(used: u32, clip: Clip, rate: u32, v: Voice) -> bool
     ensures { (s : Session) → s.bank.used ≡ used → s.settings.rate ≡ rate → (v.handle.slot < 32 → clip_of s.bank v.handle ≡ clip) → result ≡ voice_ok s v }
 {
-    let h = v.handle;
-    if !bank::stinger_held(used, clip, rate, h) {
+    if !bank::stinger_held(used, clip, rate, v.handle) {
         return false;
     }
     let head = v.head.0;
@@ -325,12 +320,12 @@ fn voices_ok(b: Bank, rate: u32, voices: Voices) -> bool
 }
 
 /// The clip that a record holds, if it holds one, is live, of right kind and rate.
+#[tactic(auto, using(timeline::proofs::Words::claim_read), unfolding(bank::specs::Slots::claim_ok))]
 fn row_held(used: u32, clip: Clip, rate: u32, x: Row) -> bool
     ensures { (b : Bank) → b.used ≡ used → ((handle_of x.first).slot < 32 → clip_of b (handle_of x.first) ≡ clip) → result ≡ claim_ok b rate (claim_of (read_of x)) }
 {
     let h = timeline::handle_of(x.first);
-    let kind = x.kind;
-    match kind {
+    match x.kind {
         9 => bank::song_held(used, clip, rate, h),
         10 => bank::stinger_held(used, clip, rate, h),
         _ => true,
@@ -345,6 +340,7 @@ fn voices_of(kind: u64) -> usize
 }
 
 /// The n queued records: strictly ordered, each in order by itself, what they hold live, of right kind and rate, and at most so many Stingers.
+#[tactic(auto, using(crate::proofs::Walk::clipless, crate::proofs::Walk::one_at_most, crate::proofs::Walk::stingers_none, crate::proofs::Walk::stingers_few, crate::proofs::Walk::stingers_stay))]
 fn queued_ok(b: Bank, rate: u32, last: u64, most: usize, store: &[u64], n: usize) -> bool
     requires { n * 5 ≤ length store.now }
     ensures { result ≡ all_below n (λ j. ordered_at store.now j && (entry_ok last (row_at store.now j) && claim_ok b rate (claim_of (read_of (row_at store.now j))))) && leb (stingers store.now n) most }
@@ -372,6 +368,7 @@ fn queued_ok(b: Bank, rate: u32, last: u64, most: usize, store: &[u64], n: usize
 }
 
 /// The n captured records: their numbers rise, each is in order by itself, and what they hold is live, of right kind and rate.
+#[tactic(auto, using(crate::proofs::Walk::clipless))]
 fn captured_ok(b: Bank, rate: u32, last: u64, store: &[u64], n: usize) -> bool
     requires { n * 5 ≤ length store.now }
     ensures { result ≡ all_below n (λ j. rising_at store.now j && (entry_ok last (row_at store.now j) && claim_ok b rate (claim_of (read_of (row_at store.now j))))) }
@@ -400,22 +397,21 @@ fn captured_ok(b: Bank, rate: u32, last: u64, store: &[u64], n: usize) -> bool
 fn together(a: u64, b: u64, most: u64) -> bool
     ensures { result ≡ leb (a + b) most }
 {
-    if b <= most { a <= most - b } else { false }
+    b <= most && a <= most - b
 }
 
 /// The master has at most 256 frames left, its target from 0 to 2.
 fn master_ok(master: Ramp) -> bool
     ensures { result ≡ leb master.remaining master_frames && between zero32 two32 master.target }
 {
-    let target = ramp::is_between(0.0, 2.0, master.target);
-    (master.remaining <= stage::GAIN_RAMP_FRAMES) & target
+    master.remaining <= stage::GAIN_RAMP_FRAMES && ramp::is_between(0.0, 2.0, master.target)
 }
 
 /// Executed + queued <= last number; swaps + stingers fired <= executed.
 fn counts_ok(k: Counters, queued: usize, last: u64) -> bool
     ensures { result ≡ leb (k.executed + queued) last && leb (k.swaps + k.fired) k.executed }
 {
-    together(k.executed, queued as u64, last) & together(k.swaps, k.fired, k.executed)
+    together(k.executed, queued as u64, last) && together(k.swaps, k.fired, k.executed)
 }
 
 /// Well formed: each clause in turn, of the parts of any session with any stores.
@@ -438,12 +434,10 @@ pub fn formed(
     if !stores_ok(settings, queue, capture) {
         return false;
     }
-    let master = stage.sound.master;
-    if !master_ok(master) {
+    if !master_ok(stage.sound.master) {
         return false;
     }
-    let counters = stage.counters;
-    if !counts_ok(counters, queued, desk.number) {
+    if !counts_ok(stage.counters, queued, desk.number) {
         return false;
     }
     if !bank::bank_ok(bank, settings.pool) {
@@ -466,8 +460,7 @@ pub fn formed(
         }
     }
     if count > 0 {
-        let voices = stage.sound.voices;
-        if !voices_ok(bank, settings.rate, voices) {
+        if !voices_ok(bank, settings.rate, stage.sound.voices) {
             return false;
         }
     }
@@ -491,6 +484,7 @@ pub fn well_formed(s: Session, queue: &[u64], capture: &[u64]) -> bool
 }
 
 /// 1 alone: start capture, replay, snapshot and metrics weigh nothing else.
+#[tactic(auto, unfolding(crate::specs::WellFormed::weigh_only, crate::specs::Refusal::first))]
 pub fn weigh_only(s: Session, queue: &[u64], capture: &[u64]) -> Result<(), Refusal>
     ensures { result ≡ weigh_only s queue.now capture.now }
 {

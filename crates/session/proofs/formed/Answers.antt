@@ -18,7 +18,6 @@ use Rattle.session.specs.Session.{extent_now, captured_now}
 use Rattle.session.specs.WellFormed.{settings_ok, numbers_ok, held, every_voice, song_ok, master_ok, voice_ok, tail_ok, counts_ok}
 use Rattle.session.proofs.Walk.{clip_read, asked_none, stingers_fit}
 use Rattle.session.proofs.Checks.{Checks, queue_fits, capture_fits, numbers_has, rooms, queue_walk, capture_walk, passes, decides, fails}
-use borrow.Author.Rules.{rules}
 use Rattle.session.proofs.formed.Goals as goal
 use Rattle.session.proofs.formed.Goals.{then-queued-gt0+else-not-queued_ok, else-queued-gt0, then-captured-gt0+else-not-captured_ok, else-captured-gt0, then-count-gt0+else-not-voices_ok, else-count-gt0}
 
@@ -92,13 +91,6 @@ returns-then-not-song_ok c =
     let m : length c.args.bank.clips ≡ 32 = omega arith in
     fails _ _ _ (song_is s _ (c.song_ok.ensures c.args.bank refl (clip_read c.args.bank c.args.bank refl m _ _ _ c.place_of-place.ensures))) c.if-not-song_ok.true (λ k. k.song)
 
-pub overflow_sub-count : goal.overflow_sub-count
-overflow_sub-count c =
-    let s : Session = record { settings = c.args.settings; bank = c.args.bank; stage = c.args.stage; queued = c.args.queued; desk = c.args.desk } in
-    let numbers : numbers_ok s ≡ true = passes (numbers_is s _ _ c.captured_now-captured.ensures c.numbers_ok.ensures) c.if-not-numbers_ok.false in
-    let few = (numbers_has s numbers).voices in
-    search rules
-
 pub queued_ok-requires : goal.queued_ok-requires
 queued_ok-requires c =
     let s : Session = record { settings = c.args.settings; bank = c.args.bank; stage = c.args.stage; queued = c.args.queued; desk = c.args.desk } in
@@ -124,13 +116,6 @@ pub returns-then-not-captured_ok : goal.returns-then-not-captured_ok
 returns-then-not-captured_ok c =
     let s : Session = record { settings = c.args.settings; bank = c.args.bank; stage = c.args.stage; queued = c.args.queued; desk = c.args.desk } in
     fails _ _ _ ((rw c.captured_now-captured.ensures at c.captured_ok.ensures) ∙ capture_walk s c.args.capture.now) c.if-not-captured_ok.true (λ k. k.capture)
-
-pub voices_ok-requires : goal.voices_ok-requires
-voices_ok-requires c =
-    let s : Session = record { settings = c.args.settings; bank = c.args.bank; stage = c.args.stage; queued = c.args.queued; desk = c.args.desk } in
-    let numbers : numbers_ok s ≡ true = passes (numbers_is s _ _ c.captured_now-captured.ensures c.numbers_ok.ensures) c.if-not-numbers_ok.false in
-    let few = (numbers_has s numbers).voices in
-    few
 
 pub returns-then-not-voices_ok : goal.returns-then-not-voices_ok
 returns-then-not-voices_ok c =

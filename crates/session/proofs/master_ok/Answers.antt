@@ -1,7 +1,8 @@
 -- `master_ok` meets its contract.
 use lib.Ieee.{of_bits}
+use borrow.Author.Rules.{rules}
 use Rattle.session.proofs.master_ok.Goals as goal
 
-pub returns : goal.returns
+pub returns-then-master-le-GAIN_RAMP_FRAMES : goal.returns-then-master-le-GAIN_RAMP_FRAMES
 unfolding of_bits
-returns c = simp c.is_between-target.ensures
+returns-then-master-le-GAIN_RAMP_FRAMES c = search rules

@@ -2,19 +2,13 @@
 use mathlib.Core.Path.{◌≡◌, refl, sym, ap, ◌∙◌}
 use Prim.Native.Nat.{◌+◌}
 use native.Mathlib.Omega.{arith}
-use lib.Dec.{leb, eqb}
+use lib.Dec.{leb}
 use lib.ListN.{length}
 use Rattle.counts.proofs.Truth.{and_false_l}
 use Rattle.timeline.specs.Queue.{ordered_at, stingers}
-use Rattle.session.proofs.Walk.{clip_read, clipless, passed_none, passed_next, passed_all, order_stops, entry_stops, claim_stops, one_at_most, stingers_none, stingers_few, stingers_next, stingers_stay}
+use Rattle.session.proofs.Walk.{clip_read, passed_next, passed_all, order_stops, entry_stops, claim_stops, stingers_next}
 use Rattle.session.proofs.Checks.{passes}
-use borrow.Author.Rules.{rules}
 use Rattle.session.proofs.queued_ok.Goals as goal
-
-pub loop-j-init : goal.loop-j-init
-loop-j-init c =
-    let a = c.args in
-    (search rules, passed_none a.b a.rate a.last (ordered_at a.store.now) a.store.now, stingers_none a.store.now)
 
 pub returns-then-not-ordered_at : goal.returns-then-not-ordered_at
 returns-then-not-ordered_at c =
@@ -32,21 +26,10 @@ returns-then-not-row_held c =
     let a = c.args in
     sym (and_false_l (leb (stingers a.store.now a.n) a.most) (claim_stops a.b a.rate a.last (ordered_at a.store.now) a.store.now c.loop-j.j _ c.row_at-x.ensures a.n c.loop-j-test.true (sym (c.row_held.ensures c.args.b refl (clip_read c.args.b c.args.b refl m _ _ _ (rw c.handle_of.ensures at c.place_of-place.ensures))) ∙ c.if-not-row_held.true)))
 
-pub overflow_add-stingers : goal.overflow_add-stingers
-overflow_add-stingers c =
-    let few = stingers_few c.args.store.now c.loop-j.j c.loop-j.stingers c.loop-j.invariant.2 in
-    omega (arith, few, one_at_most (eqb c.row_at-x.result.kind 10) c.voices_of-stingers.result c.voices_of-stingers.ensures, c.loop-j-test.true, c.ranges.n.fits)
-
 pub loop-j-preserved : goal.loop-j-preserved
 loop-j-preserved c =
     let m : length c.args.b.clips ≡ 32 = omega arith in
     (omega (arith, c.loop-j-test.true), passed_next c.args.b c.args.rate c.args.last (ordered_at c.args.store.now) c.args.store.now c.loop-j.j _ c.row_at-x.ensures c.loop-j.invariant.1 (passes c.ordered_at.ensures c.if-not-ordered_at.false) (passes c.entry_ok.ensures c.if-not-entry_ok.false) (passes (c.row_held.ensures c.args.b refl (clip_read c.args.b c.args.b refl m _ _ _ (rw c.handle_of.ensures at c.place_of-place.ensures))) c.if-not-row_held.false), stingers_next c.args.store.now c.loop-j.j _ c.row_at-x.ensures _ _ c.loop-j.invariant.2 (ap (λ n. c.loop-j.stingers + n) c.voices_of-stingers.ensures))
-
-pub loop-j-preserved-then-not-holds_clip : goal.loop-j-preserved-then-not-holds_clip
-loop-j-preserved-then-not-holds_clip c =
-    let a = c.args in
-    let none = sym c.holds_clip.ensures ∙ c.if-not-holds_clip.true in
-    (omega (arith, c.loop-j-test.true), passed_next c.args.b c.args.rate c.args.last (ordered_at c.args.store.now) c.args.store.now c.loop-j.j _ c.row_at-x.ensures c.loop-j.invariant.1 (passes c.ordered_at.ensures c.if-not-ordered_at.false) (passes c.entry_ok.ensures c.if-not-entry_ok.false) (clipless a.b a.rate _ none), stingers_stay a.store.now c.loop-j.j _ c.row_at-x.ensures _ c.loop-j.invariant.2 none)
 
 pub returns : goal.returns
 returns c =

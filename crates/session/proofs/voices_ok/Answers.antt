@@ -4,7 +4,7 @@ use mathlib.Core.Bool.{Bool}
 use Prim.Native.Nat.{ℕ, ◌<◌}
 use native.Mathlib.Omega.{arith}
 use lib.ListN.{length, get_or}
-use borrow.Author.Count.{below_none, below_more}
+use borrow.Author.Count.{below_more}
 use Rattle.counts.proofs.Below.{all_true, all_false}
 use Rattle.bank.specs.declared.Bank.{Bank}
 use Rattle.bank.specs.declared.Clip.{Clip}
@@ -27,9 +27,6 @@ found : (b : Bank) (rate : ℕ) (vs : Voices) (i p : ℕ) (d : Voice) (x : Clip)
 found b rate vs i p d x r m l e says s same rated =
     ap (voice_ok s) (get_d_any vs.table i blank_voice d l)
     ∙ sym (says s (ap (λ (z : Bank). z.used) same) rated (clip_read s.bank b same m _ _ _ e))
-
-pub loop-i-init : goal.loop-i-init
-loop-i-init c = (search rules, λ s e r. below_none _)
 
 pub loop-i-preserved : goal.loop-i-preserved
 loop-i-preserved c =
