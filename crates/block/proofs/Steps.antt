@@ -2,7 +2,7 @@
 use mathlib.Core.Path.{◌≡◌, refl, sym, ◌∙◌}
 use mathlib.Core.Bool.{true, false}
 use mathlib.Core.List.{List, ◌∷◌}
-use Prim.Native.Nat.{ℕ, zero, suc, ◌+◌, ◌-◌, ◌≤◌, ◌<◌, min}
+use Prim.Native.Nat.{ℕ, zero, suc, ◌+◌, ◌-◌, ◌≤◌, ◌<◌}
 use native.Mathlib.Omega.{arith}
 use native.Mathlib.Numerals.{sub-one}
 use lib.Dec.{leb}
@@ -40,23 +40,11 @@ module _ (q : List ℕ) (n t : ℕ) (pos : 0 < n) where
       go zero h = absurd (omega arith)
       go (suc k) h = rw sub-one
 
-  -- is due when its frame is not past the clock,
+  -- is due when its frame is not past the clock
   pub due_at : first_due q n t ≡ leb (row_at q (n - 1)).at t
   due_at = go n pos
     where
       go : (k : ℕ) → 0 < k → first_due q k t ≡ leb (row_at q (k - 1)).at t
-      go zero h = absurd (omega arith)
-      go (suc k) h = rw sub-one
-
-  -- is not before the clock otherwise,
-  pub not_due : first_due q n t ≡ false → t ≤ (row_at q (n - 1)).at
-  not_due h = omega (arith, leb-false (row_at q (n - 1)).at t (rw due_at at h))
-
-  -- and is so many frames ahead
-  pub lead_at : (left : ℕ) → lead_of q n t left ≡ min ((row_at q (n - 1)).at - t) left
-  lead_at left = go n pos
-    where
-      go : (k : ℕ) → 0 < k → lead_of q k t left ≡ min ((row_at q (k - 1)).at - t) left
       go zero h = absurd (omega arith)
       go (suc k) h = rw sub-one
 

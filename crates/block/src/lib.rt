@@ -33,6 +33,7 @@ pub fn reported_by(answer: Result<u64, Refusal>) -> u64
 }
 
 /// 1, 2, 3, then block 4.
+#[tactic(auto, using(session::proofs::Parts::clock_most), unfolding(crate::specs::Block::weigh_block, session::specs::Refusal::first))]
 pub fn weigh_block(
     settings: Settings,
     bank: Bank,
@@ -66,11 +67,7 @@ pub fn is_due(clock: ClockFrame, queue: &[u64], queued: usize) -> bool
     requires { queued * 5 ≤ length queue.now }
     ensures { result ≡ first_due queue.now queued clock.0 }
 {
-    if queued == 0 {
-        return false;
-    }
-    let at = timeline::first_at(queue, queued);
-    at.0 <= clock.0
+    queued > 0 && timeline::first_at(queue, queued).0 <= clock.0
 }
 
 /// How many of the frames that are left come before the first queued command.
@@ -81,8 +78,7 @@ pub fn lead(clock: ClockFrame, queue: &[u64], queued: usize, left: usize) -> usi
     if queued == 0 {
         return left;
     }
-    let at = timeline::first_at(queue, queued);
-    let ahead = at.0 - clock.0;
+    let ahead = timeline::first_at(queue, queued).0 - clock.0;
     if ahead < left as u64 {
         return ahead as usize;
     }
@@ -100,15 +96,13 @@ fn execute_first(
     requires { Executable queue.now queued stage }
     ensures { result ≡ first_done settings clip queue.now queued stage }
 {
-    let kind = clip.kind;
-    let extent = bank::extent_of(kind);
-    let first = timeline::first(queue, queued);
-    let command = first.command;
-    stage.execute(settings, extent, command)
+    let extent = bank::extent_of(clip.kind);
+    stage.execute(settings, extent, timeline::first(queue, queued).command)
 }
 
 /// While frames remain, the first queued command is executed if it is due, else frames are made up to the next one;
 /// after the last frame one command, if it is due. No frames: nothing. It answers the passes of all frames.
+#[tactic(auto, using(crate::proofs::Filling::fill_start, crate::proofs::Filling::fill_none))]
 pub fn fill(
     settings: Settings,
     bank: Bank,
@@ -135,11 +129,9 @@ pub fn fill(
     let mut done = 0;
     'block: loop {
         if is_due(stage.clock, queue, queued) {
-            let song = stage.playhead.song;
-            let slot = song.slot as usize;
-            let clip = bank.clips[slot];
+            let clip = bank.clips[stage.playhead.song.slot as usize];
             stage = execute_first(stage, settings, clip, queue, queued);
-            queued = queued - 1;
+            queued -= 1;
             if done == frames {
                 break 'block;
             }
@@ -149,10 +141,9 @@ pub fn fill(
             let ahead = lead(stage.clock, queue, queued, frames - done);
             let at = done * 2;
             let further = runs::frames_on(stage, settings, pool, bank, &mut out[at..], ahead);
-            let more = further.frames;
             stage = further.stage;
-            passes = passes + further.passes;
-            done = done + more;
+            passes += further.passes;
+            done += further.frames;
         }
     }
     Made {
@@ -163,6 +154,7 @@ pub fn fill(
 }
 
 /// A block over a session's parts, of which it gives what it changes.
+#[tactic(auto, using(crate::proofs::Weigh::accepted, crate::proofs::Weigh::fillable), unfolding(crate::specs::Block::block_of, session::specs::Refusal::unless))]
 pub fn make(
     settings: Settings,
     bank: Bank,
@@ -208,17 +200,15 @@ pub fn block(
 ) -> Answered<u64>
     ensures { ◌≡◌ {A = Answered ℕ × List Float} (result, out.new) (block_of s queue.now capture.now pool.now out.old) }
 {
-    let settings = s.settings;
-    let bank = s.bank;
-    let stage = s.stage;
-    let desk = s.desk;
     let made = make(
-        settings, bank, stage, s.queued, desk, queue, capture, pool, out,
+        s.settings, s.bank, s.stage, s.queued, s.desk, queue, capture, pool, out,
     );
-    let answer = made.answer;
-    let next = made.stage;
-    let mut s = s;
-    s.stage = next;
-    s.queued = made.queued;
-    Answered { answer, session: s }
+    Answered {
+        answer: made.answer,
+        session: Session {
+            stage: made.stage,
+            queued: made.queued,
+            ..s
+        },
+    }
 }

@@ -1,35 +1,20 @@
 -- `block::fill` meets its contract. Assumes nothing.
 use mathlib.Core.Path.{sym, ◌∙◌}
-use Prim.Native.Nat.{◌<◌}
 use native.Mathlib.Omega.{arith}
 use Rattle.block.proofs.Steps.{due_some}
 use Rattle.block.proofs.Going.{queue_stands, first_asked}
-use Rattle.block.proofs.Filling.{fill_start, fill_going, fill_slot, fill_clip, fill_exec, turn_most, turn_few, turn_asked, fill_stretch, fill_last, fill_end, fill_none}
+use Rattle.block.proofs.Filling.{fill_going, fill_slot, fill_clip, fill_exec, turn_few, turn_asked, fill_stretch, fill_last, fill_end}
 use Rattle.block.proofs.fill.Goals as goal
-
-pub returns-then-frames-eq0 : goal.returns-then-frames-eq0
-returns-then-frames-eq0 c = fill_none _ _ _ _ _ _ _ c.requires.even c.if-frames-eq0.true
-
-pub block-init : goal.block-init
-block-init c = fill_start _ _ _ _ _ _ _ c.requires
 
 pub is_due-requires : goal.is_due-requires
 is_due-requires c = queue_stands _ _ _ _ _ (fill_going _ _ _ _ _ _ _ _ _ _ _ _ c.block.invariant)
 
-pub bounds-bank-slot : goal.bounds-bank-slot
-bounds-bank-slot c = fill_slot _ _ _ _ _ _ _ _ _ _ _ _ c.block.invariant
+pub bounds-bank-stage : goal.bounds-bank-stage
+bounds-bank-stage c = fill_slot _ _ _ _ _ _ _ _ _ _ _ _ c.block.invariant
 
 pub execute_first-stage-requires : goal.execute_first-stage-requires
 execute_first-stage-requires c =
     first_asked _ _ _ _ _ (fill_going _ _ _ _ _ _ _ _ _ _ _ _ c.block.invariant) (due_some _ _ _ (sym c.is_due.ensures ∙ c.if-is_due.true))
-
-pub overflow_sub-queued : goal.overflow_sub-queued
-overflow_sub-queued c = due_some _ _ _ (sym c.is_due.ensures ∙ c.if-is_due.true)
-
-pub block-smaller-else-done-frames : goal.block-smaller-else-done-frames
-block-smaller-else-done-frames c =
-    let pos : 0 < c.block.queued = due_some _ _ _ (sym c.is_due.ensures ∙ c.if-is_due.true) in
-    omega (arith, pos)
 
 pub block-preserved-else-done-frames : goal.block-preserved-else-done-frames
 block-preserved-else-done-frames c =
@@ -38,21 +23,9 @@ block-preserved-else-done-frames c =
     (fill_exec _ _ _ _ _ _ _ _ _ _ _ _ v _ (fill_clip _ _ _ _ _ _ _ _ _ _ _ _ v (omega arith) _) (omega (arith, v.most, c.if-done-frames.false))
     (sym c.is_due.ensures ∙ c.if-is_due.true))
 
-pub overflow_sub-frames : goal.overflow_sub-frames
-overflow_sub-frames c = c.block.invariant.most
-
 pub lead-ahead-requires : goal.lead-ahead-requires
 lead-ahead-requires c =
     (queue_stands _ _ _ _ _ (fill_going _ _ _ _ _ _ _ _ _ _ _ _ c.block.invariant), sym c.is_due.ensures ∙ c.if-is_due.false)
-
-pub overflow_mul-at : goal.overflow_mul-at
-overflow_mul-at c = let v = c.block.invariant in omega (arith, v.most, v.size, c.well_formed.1.1.1.1.1.1.0)
-
-pub offset_bounds-out-at : goal.offset_bounds-out-at
-offset_bounds-out-at c = let v = c.block.invariant in omega (arith, v.most, v.size, c.well_formed.1.1.1.1.1.1.0)
-
-pub slice_bounds-frames_on-count : goal.slice_bounds-frames_on-count
-slice_bounds-frames_on-count c = let v = c.block.invariant in omega (arith, v.most, v.size)
 
 pub frames_on-further-requires : goal.frames_on-further-requires
 frames_on-further-requires c =
@@ -66,25 +39,10 @@ overflow_add-passes c =
     let few = turn_few _ _ _ _ _ _ _ _ _ _ _ _ v _ (rw c.lead-ahead.ensures at f.1) _ f.4 in
     omega (arith, few, v.size, c.well_formed.1.1.1.1.1.1.0)
 
-pub overflow_add-done : goal.overflow_add-done
-overflow_add-done c =
-    let v = c.block.invariant in
-    let most = turn_most _ _ _ _ _ _ _ _ _ _ _ _ v _ (rw c.lead-ahead.ensures at c.frames_on-further.ensures.1) in
-    omega (arith, most, c.well_formed.1.1.1.1.1.1.0)
-
-pub block-smaller : goal.block-smaller
-block-smaller c =
-    let v = c.block.invariant in
-    let most = turn_most _ _ _ _ _ _ _ _ _ _ _ _ v _ (rw c.lead-ahead.ensures at c.frames_on-further.ensures.1) in
-    omega (arith, most, c.frames_on-further.ensures.0)
-
 pub block-preserved : goal.block-preserved
 block-preserved c =
     let f = c.frames_on-further in
     fill_stretch _ _ _ _ _ _ _ _ _ _ _ _ c.block.invariant _ (rw c.lead-ahead.ensures at c.frames_on-further.ensures.1) f.result.stage _ f.new.out (sym c.is_due.ensures ∙ c.if-is_due.false) f.ensures.2 f.ensures.3 f.auto.out f.ensures.4
-
-pub shape_of-out-then-done-frames : goal.shape_of-out-then-done-frames
-shape_of-out-then-done-frames c = c.block.invariant.size ∙ sym c.requires.even
 
 pub returns-then-done-frames : goal.returns-then-done-frames
 returns-then-done-frames c desk =
@@ -92,9 +50,6 @@ returns-then-done-frames c desk =
     rw c.execute_first-stage.ensures
     (fill_last _ _ _ _ _ _ _ _ _ _ _ _ v (omega (arith, c.if-frames-eq0.false)) c.if-done-frames.true desk _ (fill_clip _ _ _ _ _ _ _ _ _ _ _ _ v (omega arith) _)
     (sym c.is_due.ensures ∙ c.if-is_due.true))
-
-pub shape_of-out-then-done-frames-2 : goal.shape_of-out-then-done-frames-2
-shape_of-out-then-done-frames-2 c = c.block.invariant.size ∙ sym c.requires.even
 
 pub returns-then-done-frames-2 : goal.returns-then-done-frames-2
 returns-then-done-frames-2 c desk =
