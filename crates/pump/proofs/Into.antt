@@ -110,10 +110,6 @@ module _ (x : Settings) (b : Bank) (t : Stage) (m : ℕ) (q : List ℕ) (pool : 
   abbrev at : Desk → Session
   at desk = of_parts x b t m desk
 
-  -- where so many frames can be made, fewer can
-  pub pumpable_less : (n k : ℕ) → k ≤ n → Pumpable x b t m q pool n → Pumpable x b t m q pool k
-  pumpable_less n k l p = record { going = p.going; lent = p.lent; clock = omega (arith, p.clock) }
-
   module _ (store : List Float) (place : ℕ) where
     -- STRAIGHT: the part that a block was made into, put back, is the store with its samples pushed
     pub into_straight : (n : ℕ) → place + n * 2 ≤ length store → (made : Made) (out : List Float)

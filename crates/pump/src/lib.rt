@@ -40,6 +40,7 @@ fn frames_made(r: SampleRing, size: usize, frames: usize) -> usize
 }
 
 /// 1, the ring, 2, then 4 for the frames made.
+#[tactic(auto, using(session::proofs::Parts::clock_most, crate::proofs::Weighing::made_small, ring::proofs::Places::within), unfolding(crate::specs::Pump::weigh_pump, session::specs::Refusal::first))]
 pub fn weigh_pump(
     s: Session,
     queue: &[u64],
@@ -120,13 +121,10 @@ fn joined(before: Result<u64, Refusal>, last: Made) -> Made
     requires { reported before + reported last.answer < 2 ^ 64 }
     ensures { result ≡ made_after before last }
 {
-    let answer = last.answer;
-    let passes = block::reported_by(before) + block::reported_by(answer);
-    let stage = last.stage;
+    let passes = block::reported_by(before) + block::reported_by(last.answer);
     Made {
         answer: Ok(passes),
-        stage,
-        queued: last.queued,
+        ..last
     }
 }
 
@@ -169,12 +167,10 @@ fn over(
         &mut store[..],
         at,
     );
-    let answer = one.answer;
-    let next = one.stage;
     let rest = straight(
         settings,
         bank,
-        next,
+        one.stage,
         one.queued,
         queue,
         pool,
@@ -182,7 +178,7 @@ fn over(
         1,
         frames - 1,
     );
-    joined(answer, rest)
+    joined(one.answer, rest)
 }
 
 /// So many frames round the store from a place on: up to its end, and the rest from there.
@@ -217,25 +213,23 @@ fn round(
     if left == 0 {
         return first;
     }
-    let answer = first.answer;
-    let next = first.stage;
-    let reached = at + before * 2;
     let rest = over(
         settings,
         bank,
-        next,
+        first.stage,
         first.queued,
         queue,
         pool,
         &mut store[..],
-        reached,
+        at + before * 2,
         left,
     );
-    joined(answer, rest)
+    joined(first.answer, rest)
 }
 
 /// Makes the frames asked for, held to half the free samples, and pushes all of them. Refused, it leaves session, ring and
 /// store as they were.
+#[tactic(auto, using(crate::proofs::Weighing::accepted, crate::proofs::Weighing::made_fits, crate::proofs::Weighing::pumpable), unfolding(crate::specs::Pump::pump_of, session::specs::Refusal::unless))]
 pub fn pump(
     s: Session,
     queue: &[u64],
@@ -252,35 +246,31 @@ pub fn pump(
     match weighed {
         Ok(()) => {
             let made = frames_made(r, size, frames);
-            let tail = r.tail;
-            let settings = s.settings;
-            let bank = s.bank;
-            let stage = s.stage;
             let pushed = round(
-                settings,
-                bank,
-                stage,
+                s.settings,
+                s.bank,
+                s.stage,
                 s.queued,
                 queue,
                 pool,
                 &mut store[..],
-                tail,
+                r.tail,
                 made,
             );
-            let answer = pushed.answer;
-            let next = pushed.stage;
-            let mut s = s;
-            s.stage = next;
-            s.queued = pushed.queued;
-            let mut r = r;
-            r.tail = ring::place(size, tail, made * 2);
             Pumped {
                 answer: Ok(Pushed {
                     frames: made,
-                    passes: block::reported_by(answer),
+                    passes: block::reported_by(pushed.answer),
                 }),
-                session: s,
-                ring: r,
+                session: Session {
+                    stage: pushed.stage,
+                    queued: pushed.queued,
+                    ..s
+                },
+                ring: SampleRing {
+                    tail: ring::place(size, r.tail, made * 2),
+                    ..r
+                },
             }
         }
         Err(k) => Pumped {

@@ -5,16 +5,12 @@ use native.Mathlib.Omega.{arith}
 use lib.ListN.{length}
 use Rattle.ring.specs.Ring.{place_at}
 use Rattle.ring.proofs.Places.{place_past}
-use Rattle.pump.proofs.Into.{pumpable_less, into_moved, on_length, on_few, on_pumpable, on_joined}
+use Rattle.pump.proofs.Into.{into_moved, on_length, on_few, on_pumpable, on_joined}
 use Rattle.pump.proofs.over.Goals as goal
 
 pub returns-then-at-store : goal.returns-then-at-store
 returns-then-at-store c =
     into_moved _ _ _ _ _ _ _ _ _ _ _ _ (place_past _ 0 ∙ ap (λ (n : ℕ). place_at (length c.args.store.now) n 0) (omega (arith, c.if-at-store.true))) c.straight.ensures
-
-pub across-one-requires : goal.across-one-requires
-across-one-requires c =
-    (pumpable_less _ _ _ _ _ _ _ 1 c.requires.1 c.requires.0, omega (arith, c.requires.3, c.requires.4, c.if-at-store.false))
 
 pub straight-rest-requires : goal.straight-rest-requires
 straight-rest-requires c =

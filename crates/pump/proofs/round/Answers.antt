@@ -1,20 +1,8 @@
 -- `pump::round` meets its contract. Assumes nothing.
-use mathlib.Core.Path.{◌≡◌, refl}
+use mathlib.Core.Path.{refl}
 use native.Mathlib.Omega.{arith}
-use Rattle.pump.proofs.Into.{pumpable_less, on_length, on_few, on_pumpable, on_joined, reached_end}
+use Rattle.pump.proofs.Into.{on_length, on_few, on_pumpable, on_joined, reached_end}
 use Rattle.pump.proofs.round.Goals as goal
-
-pub straight-first-requires : goal.straight-first-requires
-straight-first-requires c =
-    let l = c.min-before.ensures in
-    (pumpable_less _ _ _ _ _ _ _ _ (omega (arith, l)) c.requires.0, omega (arith, l, c.requires.1))
-
-pub returns-then-left-eq0 : goal.returns-then-left-eq0
-returns-then-left-eq0 c =
-    let a = c.args in
-    let l = c.min-before in
-    let all : l.result ≡ a.frames = omega (arith, l.ensures, c.if-left-eq0.true) in
-    rw (← all) c.straight-first.ensures
 
 pub over-rest-requires : goal.over-rest-requires
 over-rest-requires c =
