@@ -10,8 +10,8 @@ ghost use Rattle.session.specs.declared.Answered.{Answered};
 
 use counts::SongFrame;
 use ramp::Tween;
-use session::{Answered, Refusal, Session};
-use stage::Stage;
+use session::{Answered, Desk, Refusal, Session};
+use stage::{Playhead, Sound, Stage};
 use transport::{LoopRange, Transport, TransportState};
 
 /// A control snapshot: position, state, the gain that the master is heading for, and the loop.
@@ -38,17 +38,21 @@ pub struct PerformanceMetrics {
 // ---- capture
 
 /// Capture on or off, with no record.
-fn capturing(mut s: Session, on: bool) -> Session
+fn capturing(s: Session, on: bool) -> Session
     ensures { result ≡ capturing on s }
 {
-    let mut d = s.desk;
-    d.capturing = on;
-    d.captured = 0;
-    s.desk = d;
-    s
+    Session {
+        desk: Desk {
+            capturing: on,
+            captured: 0,
+            ..s.desk
+        },
+        ..s
+    }
 }
 
 /// Capture starts empty each time, also while it runs.
+#[tactic(auto, unfolding(crate::specs::Capture::start_capture_of, session::specs::Refusal::unless))]
 pub fn start_capture(s: Session, queue: &[u64], capture: &[u64]) -> Answered<()>
     ensures { result ≡ start_capture_of s queue.now capture.now }
 {
@@ -66,30 +70,28 @@ pub fn start_capture(s: Session, queue: &[u64], capture: &[u64]) -> Answered<()>
 }
 
 /// Stopping capture: 1, 20.
+#[tactic(auto, using(crate::proofs::Capture::stored), unfolding(crate::specs::Capture::weigh_stop, session::specs::Refusal::first))]
 pub fn weigh_stop(s: Session, queue: &[u64], capture: &[u64], list: &[u64]) -> Result<(), Refusal>
     ensures { result ≡ weigh_stop s queue.now capture.now list.now }
 {
     if !session::well_formed(s, queue, capture) {
         return Err(Refusal::NotWellFormed);
     }
-    let d = s.desk;
-    let captured = session::captured_now(d);
-    let places = captured * 5;
-    if list.len() < places {
+    if list.len() < session::captured_now(s.desk) * 5 {
         return Err(Refusal::ListTooShort);
     }
     Ok(())
 }
 
 /// Stopping copies its records to the list's front and keeps the rest of the list; none if capture is off.
+#[tactic(auto, using(crate::proofs::Capture::fine_room), unfolding(crate::specs::Capture::stop_capture_of, session::specs::Refusal::unless))]
 pub fn stop_capture(s: Session, queue: &[u64], capture: &[u64], list: &mut [u64]) -> Answered<usize>
     ensures { ◌≡◌ {A = Answered ℕ × List ℕ} (result, list.new) (stop_capture_of s queue.now capture.now list.old) }
 {
     let weighed = weigh_stop(s, queue, capture, list);
     match weighed {
         Ok(()) => {
-            let d = s.desk;
-            let captured = session::captured_now(d);
+            let captured = session::captured_now(s.desk);
             timeline::copy_records(list, capture, captured);
             Answered {
                 answer: Ok(captured),
@@ -118,6 +120,7 @@ fn snapped(s: Session) -> PerformanceSnapshot
 }
 
 /// Taking a snapshot changes nothing.
+#[tactic(auto, unfolding(crate::specs::Snapshot::snapshot_of, session::specs::Refusal::unless))]
 pub fn snapshot(s: Session, queue: &[u64], capture: &[u64]) -> Answered<PerformanceSnapshot>
     ensures { result ≡ snapshot_of s queue.now capture.now }
 {
@@ -135,6 +138,7 @@ pub fn snapshot(s: Session, queue: &[u64], capture: &[u64]) -> Answered<Performa
 }
 
 /// Applying a snapshot: 1, 14.
+#[tactic(auto, unfolding(crate::specs::Snapshot::weigh_apply, session::specs::Refusal::first))]
 pub fn weigh_apply(
     s: Session,
     queue: &[u64],
@@ -156,59 +160,55 @@ pub fn weigh_apply(
 fn clamped(position: SongFrame, extent: SongFrame) -> SongFrame
     ensures { result ≡ record { 0 = min position.0 extent.0 } }
 {
-    if position.0 <= extent.0 {
-        return position;
-    }
-    extent
+    SongFrame(position.0.min(extent.0))
 }
 
 /// Loop set as by Loop, none clears it; then state; position = min(snapshot's, length), cursor the same.
 fn transport_by(extent: SongFrame, x: PerformanceSnapshot, t: Transport) -> Transport
     ensures { result ≡ transport_by extent.0 x t }
 {
-    let range = x.looped;
-    let set = t.set_loop(range, extent);
-    let looped = set.looped;
-    let state = x.state;
-    let place = x.position;
-    let position = clamped(place, extent);
+    let set = t.set_loop(x.looped, extent);
+    let position = clamped(x.position, extent);
     Transport {
-        state: state,
-        position: position,
+        state: x.state,
+        position,
         cursor: position,
-        looped: looped,
-        laps: set.laps,
+        ..set
     }
 }
 
 /// Gain at once; clock, queue, tail and voices stay.
-fn stage_by(extent: SongFrame, x: PerformanceSnapshot, mut g: Stage) -> Stage
+fn stage_by(extent: SongFrame, x: PerformanceSnapshot, g: Stage) -> Stage
     ensures { result ≡ stage_by extent.0 x g }
 {
-    let mut playhead = g.playhead;
-    let was = playhead.transport;
-    let transport = transport_by(extent, x, was);
-    playhead.transport = transport;
-    g.playhead = playhead;
-    let mut sound = g.sound;
-    let master = sound.master;
-    sound.master = master.set(ramp::not_below(x.gain), Tween::IMMEDIATE);
-    g.sound = sound;
-    g
+    Stage {
+        playhead: Playhead {
+            transport: transport_by(extent, x, g.playhead.transport),
+            ..g.playhead
+        },
+        sound: Sound {
+            master: g
+                .sound
+                .master
+                .set(ramp::not_below(x.gain), Tween::IMMEDIATE),
+            ..g.sound
+        },
+        ..g
+    }
 }
 
 /// What a snapshot that is not refused does: it changes the stage alone.
-fn applied(mut s: Session, x: PerformanceSnapshot) -> Session
+fn applied(s: Session, x: PerformanceSnapshot) -> Session
     ensures { result ≡ with_stage s (stage_by (extent_now s) x s.stage) s.queued }
 {
-    let extent = session::extent_now(s);
-    let was = s.stage;
-    let stage = stage_by(extent, x, was);
-    s.stage = stage;
-    s
+    Session {
+        stage: stage_by(session::extent_now(s), x, s.stage),
+        ..s
+    }
 }
 
 /// Applying a snapshot: gain, loop, state and position at once.
+#[tactic(auto, unfolding(crate::specs::Snapshot::apply_of, session::specs::Refusal::unless))]
 pub fn apply_snapshot(
     s: Session,
     queue: &[u64],
@@ -236,20 +236,19 @@ pub fn apply_snapshot(
 fn metered(s: Session) -> PerformanceMetrics
     ensures { result ≡ metered s }
 {
-    let clock = s.clock();
     let counters = s.stage.counters;
-    let d = s.desk;
     PerformanceMetrics {
-        rendered: clock.0,
+        rendered: s.clock().0,
         executed: counters.executed,
-        dropped: d.dropped,
-        deepest: d.deepest,
+        dropped: s.desk.dropped,
+        deepest: s.desk.deepest,
         swaps: counters.swaps,
         fired: counters.fired,
     }
 }
 
 /// Reading the metrics changes nothing.
+#[tactic(auto, unfolding(crate::specs::Metrics::metrics_of, session::specs::Refusal::unless))]
 pub fn metrics(s: Session, queue: &[u64], capture: &[u64]) -> Answered<PerformanceMetrics>
     ensures { result ≡ metrics_of s queue.now capture.now }
 {

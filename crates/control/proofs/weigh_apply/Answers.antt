@@ -1,14 +1,10 @@
--- `weigh_apply` meets its contract: 1, 14.
+-- `weigh_apply` meets its contract: the gain, whose bounds are written as floats.
 use mathlib.Core.Path.{refl, sym, ap, ◌∙◌}
 use mathlib.Core.Bool.{not}
 use lib.Ieee.{of_bits}
 use Rattle.session.proofs.Refuse.{stop, skip}
 use Rattle.control.specs.Snapshot.{weigh_apply}
 use Rattle.control.proofs.weigh_apply.Goals as goal
-
-pub returns-then-not-well_formed : goal.returns-then-not-well_formed
-unfolding weigh_apply
-returns-then-not-well_formed c = stop _ _ _ (ap not (sym c.well_formed-2.ensures ∙ c.if-not-well_formed.true))
 
 pub returns-then-not-is_between : goal.returns-then-not-is_between
 unfolding weigh_apply of_bits
