@@ -25,7 +25,7 @@ impl Moment {
     }
 
     fn is_paused(self) -> bool {
-        matches!(self.session.state(), TransportState::Paused)
+        self.session.state() == TransportState::Paused
     }
 
     /// A tail sounds.

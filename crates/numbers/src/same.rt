@@ -5,7 +5,7 @@ use print::bits;
 use ramp::Ramp;
 use session::{Desk, Session};
 use stage::{Counters, Settings, Sound, Stage, Tail};
-use transport::{LoopRange, Transport, TransportState};
+use transport::{LoopRange, Transport};
 
 /// Two floats are the same by their bits: -0.0 is not +0.0.
 fn float(a: f32, b: f32) -> bool {
@@ -47,15 +47,6 @@ fn bank(a: Bank, b: Bank) -> bool {
         & (a.last == b.last)
 }
 
-fn state(a: TransportState, b: TransportState) -> bool {
-    matches!(
-        (a, b),
-        (TransportState::Stopped, TransportState::Stopped)
-            | (TransportState::Playing, TransportState::Playing)
-            | (TransportState::Paused, TransportState::Paused)
-    )
-}
-
 fn range(a: Option<LoopRange>, b: Option<LoopRange>) -> bool {
     match (a, b) {
         (None, None) => true,
@@ -65,7 +56,7 @@ fn range(a: Option<LoopRange>, b: Option<LoopRange>) -> bool {
 }
 
 fn transport(a: Transport, b: Transport) -> bool {
-    state(a.state, b.state)
+    (a.state == b.state)
         & range(a.looped, b.looped)
         & (a.position.0 == b.position.0)
         & (a.cursor.0 == b.cursor.0)

@@ -1,13 +1,15 @@
 -- In house mode playhead and sound go together in every session reached from opening: at opening both are at 0, and frames, commands, snapshots, loads and
 -- retirements keep them so. A seek past the length does too, since a clip is no longer than its song's length. Assumes nothing.
 use mathlib.Core.Path.{◌≡◌, refl, sym, ap, ◌∙◌}
-use mathlib.Core.Bool.{true, cond}
+use mathlib.Core.Bool.{Bool, true, false, cond}
 use mathlib.Core.Logic.{inl, inr}
 use mathlib.Core.List.{List}
 use Prim.Native.Nat.{ℕ, ◌*◌, ◌≤◌}
 use lib.Ieee.{Float}
 use borrow.Author.Tests.{le-leb}
 use Rattle.std.specs.Prelude.{Some}
+use Rattle.std.specs.Bool.{then_some}
+use Rattle.std.specs.Option.{option_map_or}
 use Rattle.counts.specs.declared.Handle.{Handle}
 use Rattle.counts.specs.Counts.{place_of}
 use Rattle.counts.proofs.Truth.{and_true, cond_both}
@@ -20,7 +22,7 @@ use Rattle.transport.proofs.Together.{wrap_together, seek_together, step_togethe
 use Rattle.bank.specs.declared.Clip.{Clip}
 use Rattle.bank.specs.declared.Bank.{Bank}
 use Rattle.bank.specs.Slots.{clip_of, live}
-use Rattle.bank.specs.Recording.{recording_of, view_of}
+use Rattle.bank.specs.Recording.{Recording, recording_of, view_of}
 use Rattle.bank.proofs.Claims.{song_has, song_length}
 use Rattle.oneshot.specs.Pair.{silence, pair_at}
 use Rattle.stage.specs.declared.Settings.{Settings}
@@ -107,7 +109,13 @@ unfolding played_of moved_of step_of view_of
 gives x pool b p house h =
     let c : Clip = clip_of b p.song in
     rw (house, (wrap_keeps true p.transport).0)
-    (ap (λ y. cond (is_playing p.transport.state) y silence) (same_pair pool c (wrap_of true p.transport) (wrap_together c.frames p.transport h)))
+    (go (is_playing p.transport.state) (same_pair pool c (wrap_of true p.transport) (wrap_together c.frames p.transport h)))
+  where
+    go : (plays : Bool) → let r : Recording = recording_of pool (clip_of b p.song) in let w : Transport = wrap_of true p.transport in
+        pair_at r (place_of w.cursor) ≡ pair_at r (place_of w.position)
+        → option_map_or (λ y. pair_at r (place_of y)) (then_some plays w.cursor) silence ≡ cond plays (pair_at r (place_of w.position)) silence
+    go true e = e
+    go false e = refl
 
 pub playhead_sounds : PlayheadSounds
 unfolding view_of

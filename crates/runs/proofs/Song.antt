@@ -7,6 +7,8 @@ use lib.Dec.{leb, ltb}
 use lib.Ieee.{Float}
 use borrow.Author.Tests.{ltb-true, ltb-false, lt-ltb, lt-leb}
 use Rattle.std.specs.Prelude.{Option, Some, None}
+use Rattle.std.specs.Bool.{then_some}
+use Rattle.std.specs.Option.{option_map_or}
 use Rattle.ramp.specs.Number.{zero32}
 use Rattle.counts.specs.declared.SongFrame.{SongFrame}
 use Rattle.transport.specs.declared.TransportState.{TransportState}
@@ -60,12 +62,12 @@ cursor_left x ends c j =
     let b : j * 2 + 0 ≡ j * 2 = omega arith in
     sym (ap (sample_at x) a) ∙ cursor_reads x ends c j 0 ∙ ap (clip_share x c) b
 
--- where the song is read: at the cursor so many frames on, and at the cursor itself if it does not play
-abbrev pub read_at : ℕ → ℕ → Transport → SongFrame
-read_at frames j t = cond (is_playing t.state) (record { 0 = cursor_by frames t.cursor.0 j }) t.cursor
+-- where the song is heard, if it plays: at the cursor so many frames on
+abbrev pub heard_at : ℕ → ℕ → Transport → Option SongFrame
+heard_at frames j t = then_some (is_playing t.state) (record { 0 = cursor_by frames t.cursor.0 j })
 
 abbrev stepped : ℕ → ℕ → Transport → Stepped
-stepped frames j t = record { transport = transport_by frames (j + 1) t; playing = is_playing t.state; cursor = read_at frames j t; passes = 0 }
+stepped frames j t = record { transport = transport_by frames (j + 1) t; heard = heard_at frames j t; passes = 0 }
 
 -- no pass, no lap more
 no_lap : (k : ℕ) → k < 2 ^ 64 → min (k + 0) (2 ^ 64 - 1) ≡ k
@@ -99,18 +101,18 @@ song_share x t k = cond (is_playing t.state) (clip_share x t.cursor.0 k) zero32
 -- the playhead's step
 pub moved_frame : (x : Settings) (p : Playhead) (frames extent n j : ℕ) → Steady frames extent n p.transport → j < n
     → moved_of x frames extent (playhead (transport_by frames j p.transport) p.song)
-    ≡ record { playhead = playhead (transport_by frames (j + 1) p.transport) p.song; playing = is_playing p.transport.state; cursor = read_at frames j p.transport; passes = 0 }
+    ≡ record { playhead = playhead (transport_by frames (j + 1) p.transport) p.song; heard = heard_at frames j p.transport; passes = 0 }
 unfolding moved_of
 moved_frame x p frames extent n j h lt = rw (step_frame (is_house x) p.transport frames extent n j h lt) refl
 
 -- and what it gives
 pub played_frame : (r : Recording) → Ends r → (q : Playhead) (t : Transport) (j : ℕ)
-    → played_of r (record { playhead = q; playing = is_playing t.state; cursor = read_at r.frames j t; passes = 0 }) ≡ pair (song_share r t (j * 2)) (song_share r t (j * 2 + 1))
+    → played_of r (record { playhead = q; heard = heard_at r.frames j t; passes = 0 }) ≡ pair (song_share r t (j * 2)) (song_share r t (j * 2 + 1))
 unfolding played_of
 played_frame r ends q t j = go (is_playing t.state)
   where
     go : (b : Bool)
-        → cond b (pair_at r (place_of (cond b (record { 0 = cursor_by r.frames t.cursor.0 j }) t.cursor))) silence
+        → option_map_or (λ c. pair_at r (place_of c)) (then_some b (record { 0 = cursor_by r.frames t.cursor.0 j })) silence
         ≡ pair (cond b (clip_share r t.cursor.0 (j * 2)) zero32) (cond b (clip_share r t.cursor.0 (j * 2 + 1)) zero32)
     go true = rw (cursor_left r ends t.cursor.0 j, cursor_reads r ends t.cursor.0 j 1) refl
     go false = refl

@@ -1,6 +1,7 @@
 -- The sound: rules c and d, and what each command does to it. Definitions only.
 use Rattle.std.specs.Prelude.{ℕ, cond, eqb, Float, Option, Some, None}
 use Rattle.std.specs.Float.Ieee.{lt}
+use Rattle.std.specs.Option.{option_map_or}
 use Rattle.counts.specs.Counts.{place_of}
 use Rattle.ramp.specs.declared.Ramp.{Ramp}
 use Rattle.ramp.specs.declared.Ticked.{Ticked}
@@ -37,7 +38,7 @@ only r h = r
 
 -- b. If Playing, the song gives the pair at its cursor, past the clip +0.0; if not Playing, +0.0
 unfoldable pub played_of : Recording → Moved → Pair
-played_of song m = cond m.playing (pair_at song (place_of m.cursor)) silence
+played_of song m = option_map_or (λ c. pair_at song (place_of c)) m.heard silence
 
 -- the tail's share of a frame: as tono tail × w; in house mode the tail is multiplied by g before w
 abbrev pub tail_share : Settings → Float → Pair → Float → Pair

@@ -61,13 +61,12 @@ pub struct Playhead {
     pub song: Handle,
 }
 
-/// A playhead a frame on, whether the song plays in that frame, the cursor at which it is read, and how many times it
+/// A playhead a frame on, the cursor at which the song is heard in that frame, if it plays, and how many times the playhead
 /// passed from the loop's end to its start.
 #[derive(Clone, Copy)]
 pub struct Moved {
     pub playhead: Playhead,
-    pub playing: bool,
-    pub cursor: SongFrame,
+    pub heard: Option<SongFrame>,
     pub passes: u64,
 }
 
@@ -84,8 +83,7 @@ impl Playhead {
                 transport: s.transport,
                 ..self
             },
-            playing: s.playing,
-            cursor: s.cursor,
+            heard: s.heard,
             passes: s.passes,
         }
     }
@@ -177,12 +175,12 @@ pub fn played(pool: &[f32], song: Clip, m: Moved) -> Pair
     requires { LiesIn (length pool.now) song }
     ensures { result ≡ played_of (recording_of pool.now song) m }
 {
-    if m.playing {
-        return read_at(pool, song, m.cursor);
-    }
-    Pair {
-        left: 0.0,
-        right: 0.0,
+    match m.heard {
+        Some(c) => read_at(pool, song, c),
+        None => Pair {
+            left: 0.0,
+            right: 0.0,
+        },
     }
 }
 

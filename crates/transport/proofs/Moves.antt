@@ -7,6 +7,9 @@ use native.Mathlib.Omega.{arith}
 use borrow.Author.Tests.{le-leb, lt-leb}
 use lib.Dec.{leb, ltb}
 use Rattle.std.specs.Prelude.{Option, Some, None}
+use Rattle.std.specs.Bool.{then_some}
+use Rattle.std.specs.Option.{is_some, unwrap_or}
+use Rattle.counts.specs.declared.SongFrame.{SongFrame}
 use Rattle.counts.proofs.Truth.{cond_both}
 use Rattle.transport.specs.declared.TransportState.{TransportState}
 use Rattle.transport.specs.declared.TransportState.TheVariants.{Stopped, Playing}
@@ -15,19 +18,19 @@ use Rattle.transport.specs.declared.Transport.{Transport}
 use Rattle.transport.specs.Transport.{is_playing, transport, moved_to, wrap_to, wrap_in, wrap_of, cursor_on, land_in, advance_of, past_end, is_past, comes_round, step_of}
 
 -- if not Playing nothing moves
-pub rests : (house : Bool) (frames extent : ℕ) (t : Transport) → t.laps < 2 ^ 64 → is_playing t.state ≡ false → step_of house frames extent t ≡ record { transport = t; playing = false; cursor = t.cursor; passes = 0 }
+pub rests : (house : Bool) (frames extent : ℕ) (t : Transport) → t.laps < 2 ^ 64 → is_playing t.state ≡ false → step_of house frames extent t ≡ record { transport = t; heard = None; passes = 0 }
 unfolding step_of advance_of wrap_of is_past comes_round
 rests house frames extent t l e = let h : min (t.laps + 0) (2 ^ 64 - 1) ≡ t.laps = omega arith in simp (e, h)
 
 -- Playing without a loop, short of the length: the position rises by 1
 pub rises : (house : Bool) (frames extent p c n : ℕ) → n < 2 ^ 64 → p + 1 < extent
-    → step_of house frames extent (transport Playing p c None n) ≡ record { transport = transport Playing (p + 1) (cursor_on frames c) None n; playing = true; cursor = record { 0 = c }; passes = 0 }
+    → step_of house frames extent (transport Playing p c None n) ≡ record { transport = transport Playing (p + 1) (cursor_on frames c) None n; heard = Some (record { 0 = c }); passes = 0 }
 unfolding step_of advance_of wrap_of is_past comes_round
 rises house frames extent p c n l h = let k : min (n + 0) (2 ^ 64 - 1) ≡ n = omega arith in simp (lt-leb extent (p + 1) h, k)
 
 -- Playing without a loop, at the length: there it stops
 pub ends : (house : Bool) (frames extent p c n : ℕ) → n < 2 ^ 64 → extent ≤ p + 1
-    → step_of house frames extent (transport Playing p c None n) ≡ record { transport = transport Stopped extent (cursor_on frames c) None n; playing = true; cursor = record { 0 = c }; passes = 0 }
+    → step_of house frames extent (transport Playing p c None n) ≡ record { transport = transport Stopped extent (cursor_on frames c) None n; heard = Some (record { 0 = c }); passes = 0 }
 unfolding step_of advance_of wrap_of is_past comes_round
 ends house frames extent p c n l h = let k : min (n + 0) (2 ^ 64 - 1) ≡ n = omega arith in simp (le-leb extent (p + 1) h, k)
 
@@ -42,13 +45,6 @@ wrap_in_law t None = inl refl
 wrap_in_law t (Some l) =
     cond_both (λ (x : Transport). (x.cursor.0 ≡ t.cursor.0) ⊎ (x.cursor.0 ≡ l.start.0)) (leb l.end.0 t.position.0) (wrap_to false l.start.0 l.end.0 t) t (inr refl) (inl refl)
 
--- so the song is read at the cursor, or at the loop's start
-pub read_at : (frames extent : ℕ) (t : Transport)
-    → ((step_of false frames extent t).cursor.0 ≡ t.cursor.0) ⊎ StartsAt t.looped (step_of false frames extent t).cursor.0
-unfolding step_of wrap_of
-read_at frames extent t =
-    cond_both (λ (x : Transport). (x.cursor.0 ≡ t.cursor.0) ⊎ StartsAt t.looped x.cursor.0) (is_playing t.state) (wrap_in false t.looped t) t (wrap_in_law t t.looped) (inl refl)
-
 -- the state, the loop and the laps of the one are the other's
 abbrev Kept : Transport → Transport → Type 0
 Kept t x = (x.state ≡ t.state) × (x.looped ≡ t.looped) × (x.laps ≡ t.laps)
@@ -61,6 +57,20 @@ wrap_in_keeps house t (Some l) = cond_both (Kept t) (leb l.end.0 t.position.0) (
 pub wrap_keeps : (house : Bool) (t : Transport) → Kept t (wrap_of house t)
 unfolding wrap_of
 wrap_keeps house t = cond_both (Kept t) (is_playing t.state) (wrap_in house t.looped t) t (wrap_in_keeps house t t.looped) (refl, refl, refl)
+
+-- where the song is heard in a frame; if it does not play, its cursor
+abbrev pub read_in : Transport → Option SongFrame → ℕ
+read_in t heard = (unwrap_or heard t.cursor).0
+
+-- so the song is read at the cursor, or at the loop's start
+pub read_at : (frames extent : ℕ) (t : Transport)
+    → (read_in t (step_of false frames extent t).heard ≡ t.cursor.0) ⊎ StartsAt t.looped (read_in t (step_of false frames extent t).heard)
+unfolding step_of wrap_of
+read_at frames extent t = rw (wrap_keeps false t).0 (go (is_playing t.state))
+  where
+    go : (b : Bool) → let c : ℕ = read_in t (then_some b (cond b (wrap_in false t.looped t) t).cursor) in (c ≡ t.cursor.0) ⊎ StartsAt t.looped c
+    go true = wrap_in_law t t.looped
+    go false = inl refl
 
 short_in : (house : Bool) (t : Transport) (l : Option LoopRange) → past_end l t.position.0 ≡ false → wrap_in house l t ≡ t
 short_in house t None h = refl
@@ -76,9 +86,13 @@ short_stays house t h = go (is_playing t.state) h
     go false k = refl
 
 -- the song plays in a frame if it was Playing before it
-pub plays : (house : Bool) (frames extent : ℕ) (t : Transport) → (step_of house frames extent t).playing ≡ is_playing t.state
+pub plays : (house : Bool) (frames extent : ℕ) (t : Transport) → is_some (step_of house frames extent t).heard ≡ is_playing t.state
 unfolding step_of
-plays house frames extent t = rw (wrap_keeps house t).0
+plays house frames extent t = rw (wrap_keeps house t).0 (go (is_playing t.state))
+  where
+    go : (b : Bool) → is_some (then_some b (wrap_of house t).cursor) ≡ b
+    go true = refl
+    go false = refl
 
 -- a cursor stays, moves on by 1 or goes to the start of the loop
 abbrev pub Follows : Option LoopRange → ℕ → ℕ → Type 0
@@ -104,8 +118,14 @@ advance_follows frames extent w =
     (land_follows extent p c d w.laps w.state w.looped (on_follows frames c w.looped)) (inl refl)
 
 -- after the frame the cursor is where the song was read, one on, or at the loop's start
-pub moves_on : (house : Bool) (frames extent : ℕ) (t : Transport) → Follows t.looped (step_of house frames extent t).cursor.0 (step_of house frames extent t).transport.cursor.0
-unfolding step_of
+pub moves_on : (house : Bool) (frames extent : ℕ) (t : Transport) → Follows t.looped (read_in t (step_of house frames extent t).heard) (step_of house frames extent t).transport.cursor.0
+unfolding step_of wrap_of
 moves_on house frames extent t =
-    subst (λ l. Follows l (wrap_of house t).cursor.0 (advance_of frames extent (wrap_of house t)).cursor.0) (wrap_keeps house t).1
-    (advance_follows frames extent (wrap_of house t))
+    rw (wrap_keeps house t).0
+    (go (is_playing t.state) (subst (λ l. Follows l (wrap_of house t).cursor.0 (advance_of frames extent (wrap_of house t)).cursor.0) (wrap_keeps house t).1
+    (advance_follows frames extent (wrap_of house t))))
+  where
+    go : (b : Bool) → let w : Transport = cond b (wrap_in house t.looped t) t in let d : ℕ = (advance_of frames extent w).cursor.0 in
+        Follows t.looped w.cursor.0 d → Follows t.looped (read_in t (then_some b w.cursor)) d
+    go true h = h
+    go false h = h
