@@ -3,4 +3,5 @@ pub mod Weighed
 pub mod Round
 pub mod Refusals
 pub mod Under
+mod Named
 mod Parts

@@ -1,5 +1,5 @@
 -- Answers as a host reads them: 0 or the refusal's number, what the call gives, and the session. Definitions only.
-use Rattle.std.specs.Prelude.{ℕ, zero, suc, ◌+◌, ◌-◌, ◌^◌, min, Bool, cond, List, eqb, Result, Ok, Err, None}
+use Rattle.std.specs.Prelude.{ℕ, zero, suc, ◌+◌, ◌-◌, ◌^◌, min, Bool, true, false, cond, List, eqb, Result, Ok, Err, None}
 use Rattle.counts.specs.declared.Handle.{Handle}
 use Rattle.ramp.specs.Number.{zero32}
 use Rattle.session.specs.declared.Answered.{Answered}
@@ -17,6 +17,8 @@ use Rattle.pump.specs.declared.Pumped.{Pumped}
 use Rattle.submission.specs.declared.Report.{Report}
 use Rattle.submission.specs.Replay.{report_of}
 use Rattle.control.specs.declared.PerformanceMetrics.{PerformanceMetrics}
+use Rattle.session.specs.declared.Session.{Session}
+use Rattle.host.specs.declared.NoSuchCase.{NoSuchCase}
 use Rattle.host.specs.declared.HostSession.{HostSession}
 use Rattle.host.specs.declared.HostSnapshot.{HostSnapshot}
 use Rattle.host.specs.declared.HostAnswered.{HostAnswered}
@@ -80,6 +82,11 @@ weigh_host h q c named = cond (is_session h) (cond named 0 (cond (well_formed (s
 unfoldable pub unless {ℓ} : {A : Type ℓ} → ℕ → (ℕ → A) → A → A
 unless zero refused done = done
 unless (suc n) refused done = refused (suc n)
+
+-- what a call is given: the session with its argument, or the number that it is weighed with
+unfoldable pub admit_host : {A : Type 0} → HostSession → List ℕ → List ℕ → Result A NoSuchCase → Result (Session × A) ℕ
+admit_host h q c (Ok x) = unless (weigh_host h q c true) Err (Ok (session_of h, x))
+admit_host h q c (Err e) = Err (weigh_host h q c false)
 
 -- ---- no value: retire, start capture, apply snapshot
 

@@ -1,5 +1,5 @@
 -- A session as a host keeps it: each case is a number. Definitions only.
-use Rattle.std.specs.Prelude.{ℕ, suc, Bool, true, ◌&&◌, ◌||◌, cond, List, [], ◌∷◌, map, eqb, leb, get_or, Option, Some, None}
+use Rattle.std.specs.Prelude.{ℕ, suc, Bool, true, ◌&&◌, ◌||◌, cond, List, [], ◌∷◌, map, eqb, leb, get_or, Option, Some, None, Result, Ok, Err}
 use Rattle.counts.specs.Below.{all_below}
 use Rattle.counts.specs.declared.SongFrame.{SongFrame}
 use Rattle.counts.specs.declared.Handle.{Handle}
@@ -13,10 +13,15 @@ use Rattle.transport.specs.declared.LoopRange.{LoopRange}
 use Rattle.stage.specs.declared.Tail.{Tail}
 use Rattle.stage.specs.declared.Stage.{Stage}
 use Rattle.session.specs.declared.Session.{Session}
+use Rattle.host.specs.declared.NoSuchCase.{NoSuchCase}
 use Rattle.host.specs.declared.HostClip.{HostClip}
 use Rattle.host.specs.declared.HostLoop.{HostLoop}
 use Rattle.host.specs.declared.HostTail.{HostTail}
 use Rattle.host.specs.declared.HostSession.{HostSession}
+
+-- what numbers name, if they name a case
+abbrev pub named : {A : Type 0} → Bool → A → Result A NoSuchCase
+named b x = cond b (Ok x) (Err (record {}))
 
 -- ---- kinds: 1 a song, 2 a stinger
 

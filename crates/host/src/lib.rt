@@ -3,9 +3,9 @@
 
 ghost use Rattle.std.specs.Prelude.{◌≡◌, ◌&&◌, List, map, ℕ, ◌<◌, Float};
 ghost use Rattle.bank.specs.declared.Clip.{Clip};
-ghost use Rattle.host.specs.Kept.{is_kind, kind_of, kind_number, clip_of, clip_numbers, is_state, state_of, state_number, is_flag, flag_of, flag_number, loop_of, loop_numbers, tail_of, tail_numbers, slot_named, kinds_ok, is_session, stage_of, session_of, host_of};
+ghost use Rattle.host.specs.Kept.{named, is_kind, kind_of, kind_number, clip_of, clip_numbers, is_state, state_of, state_number, is_flag, flag_of, loop_of, loop_numbers, tail_of, tail_numbers, slot_named, kinds_ok, is_session, stage_of, session_of, host_of};
 ghost use Rattle.host.specs.Arguments.{is_submission, submission_of, is_at, at_of, is_snapshot, snapshot_of, snapshot_numbers};
-ghost use Rattle.host.specs.Answers.{turned, weigh_host, refused, answered_by, load_refused, loaded_by, opened_by, submit_refused, submitted_by, block_refused, pump_refused, pumped_by, drained_by, toured_by, salvaged_by, replay_refused, replayed_by, stop_refused, stopped_by, no_snapshot, snapshot_refused, snapped_by, no_metrics, metrics_refused, metered_by};
+ghost use Rattle.host.specs.Answers.{turned, admit_host, refused, answered_by, load_refused, loaded_by, opened_by, submit_refused, submitted_by, block_refused, pump_refused, pumped_by, drained_by, toured_by, salvaged_by, replay_refused, replayed_by, stop_refused, stopped_by, no_snapshot, snapshot_refused, snapped_by, no_metrics, metrics_refused, metered_by};
 ghost use Rattle.host.specs.Calls.{open_host, load_host, retire_host, submit_host, transition_host, replay_host, block_host, pump_host, drain_host, read_tour_host, write_tour_host, salvage_host, start_capture_host, stop_capture_host, snapshot_host, apply_host, metrics_host};
 
 use bank::{Bank, Clip, Kind};
@@ -31,6 +31,10 @@ pub const STINGER: u32 = 2;
 
 /// The refusal of an argument that names no case, above the numbers of the documents.
 pub const NO_SUCH_CASE: u32 = 255;
+
+/// Numbers that name no case.
+#[derive(Clone, Copy)]
+pub struct NoSuchCase;
 
 /// A clip: `extent` is a song's length, and is not used of a stinger. Nothing is used of a slot that holds none.
 #[repr(C)]
@@ -222,20 +226,15 @@ pub struct HostMetrics {
 
 // ---- a host's numbers and what they name
 
-/// A song or a stinger.
-fn is_kind(kind: u32) -> bool
-    ensures { result ≡ is_kind kind }
+/// 1 a song of this length, 2 a stinger.
+fn kind_of(kind: u32, extent: SongFrame) -> Result<Kind, NoSuchCase>
+    ensures { result ≡ named (is_kind kind) (kind_of kind extent) }
 {
-    (kind == SONG) | (kind == STINGER)
-}
-
-fn kind_of(kind: u32, extent: SongFrame) -> Kind
-    ensures { result ≡ kind_of kind extent }
-{
-    if kind == SONG {
-        return Kind::Song(extent);
+    match kind {
+        SONG => Ok(Kind::Song(extent)),
+        STINGER => Ok(Kind::Stinger),
+        _ => Err(NoSuchCase),
     }
-    Kind::Stinger
 }
 
 fn kind_number(kind: Kind) -> u32
@@ -247,49 +246,56 @@ fn kind_number(kind: Kind) -> u32
     }
 }
 
-fn clip_of(c: HostClip) -> Clip
-    ensures { result ≡ clip_of c }
+/// The clip of a slot that holds a song or a stinger; if it is not used, any number but a song's stands for a stinger.
+fn slot_of(used: u32, i: usize, c: HostClip) -> Result<Clip, NoSuchCase>
+    requires { i < 32 }
+    ensures { result ≡ named (slot_named used i c.kind) (clip_of c) }
 {
-    Clip {
+    let kind = match kind_of(c.kind, c.extent) {
+        Ok(kind) => kind,
+        Err(e) => {
+            if bank::is_used(used, i) {
+                return Err(e);
+            }
+            Kind::Stinger
+        }
+    };
+    Ok(Clip {
         serial: c.serial,
-        kind: kind_of(c.kind, c.extent),
+        kind,
         start: c.start,
         frames: c.frames,
         rate: c.rate,
+    })
+}
+
+impl From<Clip> for HostClip {
+    ghost from_gives = { λ c r. r ≡ clip_numbers c };
+
+    /// A stinger's length is not used, and 0.
+    fn from(c: Clip) -> HostClip {
+        let kind = c.kind;
+        HostClip {
+            serial: c.serial,
+            kind: kind_number(kind),
+            extent: bank::extent_of(kind),
+            start: c.start,
+            frames: c.frames,
+            rate: c.rate,
+        }
     }
 }
 
-fn clip_numbers(c: Clip) -> HostClip
-    ensures { result ≡ clip_numbers c }
+/// 0 stopped, 1 playing, 2 paused.
+fn state_of(n: u32) -> Result<TransportState, NoSuchCase>
+    ensures { result ≡ named (is_state n) (state_of n) }
 {
-    let kind = c.kind;
-    HostClip {
-        serial: c.serial,
-        kind: kind_number(kind),
-        extent: bank::extent_of(kind),
-        start: c.start,
-        frames: c.frames,
-        rate: c.rate,
+    match n {
+        0 => Ok(TransportState::Stopped),
+        1 => Ok(TransportState::Playing),
+        2 => Ok(TransportState::Paused),
+        _ => Err(NoSuchCase),
     }
-}
-
-/// Stopped, playing or paused.
-fn is_state(n: u32) -> bool
-    ensures { result ≡ is_state n }
-{
-    n <= 2
-}
-
-fn state_of(n: u32) -> TransportState
-    ensures { result ≡ state_of n }
-{
-    if n == 1 {
-        return TransportState::Playing;
-    }
-    if n == 2 {
-        return TransportState::Paused;
-    }
-    TransportState::Stopped
 }
 
 pub fn state_number(state: TransportState) -> u32
@@ -302,165 +308,130 @@ pub fn state_number(state: TransportState) -> u32
     }
 }
 
-/// No or yes.
-fn is_flag(n: u32) -> bool
-    ensures { result ≡ is_flag n }
+/// 0 no, 1 yes.
+fn flag_of(n: u32) -> Result<bool, NoSuchCase>
+    ensures { result ≡ named (is_flag n) (flag_of n) }
 {
-    n <= 1
-}
-
-fn flag_of(n: u32) -> bool
-    ensures { result ≡ flag_of n }
-{
-    n == 1
-}
-
-fn flag_number(on: bool) -> u32
-    ensures { result ≡ flag_number on }
-{
-    u32::from(on)
-}
-
-fn loop_of(x: HostLoop) -> Option<LoopRange>
-    ensures { result ≡ loop_of x }
-{
-    if flag_of(x.set) {
-        return Some(LoopRange {
-            start: x.start,
-            end: x.end,
-        });
-    }
-    None
-}
-
-pub fn loop_numbers(x: Option<LoopRange>) -> HostLoop
-    ensures { result ≡ loop_numbers x }
-{
-    match x {
-        None => HostLoop {
-            set: 0,
-            start: SongFrame(0),
-            end: SongFrame(0),
-        },
-        Some(l) => HostLoop {
-            set: 1,
-            start: l.start,
-            end: l.end,
-        },
+    match n {
+        0 => Ok(false),
+        1 => Ok(true),
+        _ => Err(NoSuchCase),
     }
 }
 
-fn tail_of(x: HostTail) -> Option<Tail>
-    ensures { result ≡ tail_of x }
-{
-    if flag_of(x.sounding) {
-        return Some(Tail {
-            song: x.song,
-            cursor: x.cursor,
-            weight: x.weight,
-        });
+impl TryFrom<HostLoop> for Option<LoopRange> {
+    type Error = NoSuchCase;
+
+    ghost try_from_gives = { λ x r. r ≡ named (is_flag x.set) (loop_of x) };
+
+    fn try_from(x: HostLoop) -> Result<Self, NoSuchCase> {
+        if flag_of(x.set)? {
+            return Ok(Some(LoopRange {
+                start: x.start,
+                end: x.end,
+            }));
+        }
+        Ok(None)
     }
-    None
 }
 
-fn tail_numbers(x: Option<Tail>) -> HostTail
-    ensures { result ≡ tail_numbers x }
-{
-    match x {
-        None => HostTail {
-            sounding: 0,
-            song: Handle { slot: 0, serial: 0 },
-            cursor: SongFrame(0),
-            weight: Ramp::new(0.0),
-        },
-        Some(t) => HostTail {
-            sounding: 1,
-            song: t.song,
-            cursor: t.cursor,
-            weight: t.weight,
-        },
+impl From<Option<LoopRange>> for HostLoop {
+    ghost from_gives = { λ x r. r ≡ loop_numbers x };
+
+    fn from(x: Option<LoopRange>) -> HostLoop {
+        match x {
+            None => HostLoop {
+                set: 0,
+                start: SongFrame(0),
+                end: SongFrame(0),
+            },
+            Some(l) => HostLoop {
+                set: 1,
+                start: l.start,
+                end: l.end,
+            },
+        }
+    }
+}
+
+impl TryFrom<HostTail> for Option<Tail> {
+    type Error = NoSuchCase;
+
+    ghost try_from_gives = { λ x r. r ≡ named (is_flag x.sounding) (tail_of x) };
+
+    fn try_from(x: HostTail) -> Result<Self, NoSuchCase> {
+        if flag_of(x.sounding)? {
+            return Ok(Some(Tail {
+                song: x.song,
+                cursor: x.cursor,
+                weight: x.weight,
+            }));
+        }
+        Ok(None)
+    }
+}
+
+impl From<Option<Tail>> for HostTail {
+    ghost from_gives = { λ x r. r ≡ tail_numbers x };
+
+    fn from(x: Option<Tail>) -> HostTail {
+        match x {
+            None => HostTail {
+                sounding: 0,
+                song: Handle { slot: 0, serial: 0 },
+                cursor: SongFrame(0),
+                weight: Ramp::new(0.0),
+            },
+            Some(t) => HostTail {
+                sounding: 1,
+                song: t.song,
+                cursor: t.cursor,
+                weight: t.weight,
+            },
+        }
     }
 }
 
 // ---- the session
 
-/// A slot that is used holds a song or a stinger; the kind of one that is not may be any number.
-fn slot_named(used: u32, i: usize, kind: u32) -> bool
-    requires { i < 32 }
-    ensures { result ≡ slot_named used i kind }
+/// The clips that its slots hold: every used one holds a song or a stinger.
+fn clips_of(h: HostSession) -> Result<[Clip; 32], NoSuchCase>
+    ensures { result ≡ named (kinds_ok h) (map clip_of h.clips) }
 {
-    if bank::is_used(used, i) {
-        return is_kind(kind);
-    }
-    true
-}
-
-/// Every used slot holds a song or a stinger.
-fn kinds_ok(h: HostSession) -> bool
-    ensures { result ≡ kinds_ok h }
-{
+    let blank = Bank::empty();
+    let mut clips = blank.clips;
     for i in 0..32 {
         let c = h.clips[i];
-        if !slot_named(h.used, i, c.kind) {
-            return false;
-        }
+        clips[i] = slot_of(h.used, i, c)?;
     }
-    true
-}
-
-/// Each number names a case, if the kinds' do.
-fn all_named(kinds: bool, state: u32, looped: u32, sounding: u32, capturing: u32) -> bool
-    ensures { result ≡ (kinds && is_state state && is_flag looped && is_flag sounding && is_flag capturing) }
-{
-    kinds & is_state(state) & is_flag(looped) & is_flag(sounding) & is_flag(capturing)
-}
-
-/// There is a session that it matches.
-fn is_session(h: HostSession) -> bool
-    ensures { result ≡ is_session h }
-{
-    let kinds = kinds_ok(h);
-    all_named(kinds, h.state, h.looped.set, h.tail.sounding, h.capturing)
-}
-
-fn clips_of(h: HostSession) -> [Clip; 32]
-    ensures { result ≡ map clip_of h.clips }
-{
-    let c = h.clips[0];
-    let first = clip_of(c);
-    let mut clips = [first; 32];
-    for i in 0..32 {
-        let c = h.clips[i];
-        clips[i] = clip_of(c);
-    }
-    clips
+    Ok(clips)
 }
 
 fn clips_numbers(b: Bank) -> [HostClip; 32]
     ensures { result ≡ map clip_numbers b.clips }
 {
     let c = b.clips[0];
-    let first = clip_numbers(c);
+    let first = HostClip::from(c);
     let mut clips = [first; 32];
     for i in 0..32 {
         let c = b.clips[i];
-        clips[i] = clip_numbers(c);
+        clips[i] = HostClip::from(c);
     }
     clips
 }
 
 /// The stage that it matches.
-fn stage_of(h: HostSession) -> Stage
-    ensures { result ≡ stage_of h }
+fn stage_of(h: HostSession) -> Result<Stage, NoSuchCase>
+    ensures { result ≡ named (is_state h.state && is_flag h.looped.set && is_flag h.tail.sounding) (stage_of h) }
 {
     let position = h.position;
     let cursor = h.cursor;
     let looped = h.looped;
     let transport = Transport {
-        state: state_of(h.state),
+        state: state_of(h.state)?,
         position,
         cursor,
-        looped: loop_of(looped),
+        looped: looped.try_into()?,
         laps: h.laps,
     };
     let song = h.song;
@@ -468,7 +439,7 @@ fn stage_of(h: HostSession) -> Stage
     let master = h.master;
     let tail = h.tail;
     let fade = Fade {
-        tail: tail_of(tail),
+        tail: tail.try_into()?,
     };
     let voices = h.voices;
     let sound = Sound {
@@ -478,43 +449,58 @@ fn stage_of(h: HostSession) -> Stage
     };
     let clock = h.clock;
     let counters = h.counters;
-    Stage {
+    Ok(Stage {
         clock,
         playhead,
         sound,
         counters,
-    }
+    })
 }
 
 /// The desk that it matches.
-fn desk_of(h: HostSession) -> Desk
-    ensures { result ≡ (session_of h).desk }
+fn desk_of(h: HostSession) -> Result<Desk, NoSuchCase>
+    ensures { result ≡ named (is_flag h.capturing) (session_of h).desk }
 {
-    Desk {
+    Ok(Desk {
         number: h.number,
         deepest: h.deepest,
         dropped: h.dropped,
-        capturing: flag_of(h.capturing),
+        capturing: flag_of(h.capturing)?,
         captured: h.captured,
-    }
+    })
 }
 
-/// The session that it matches.
-fn session_of(h: HostSession) -> Session
-    ensures { result ≡ session_of h }
+/// The stage and the desk that it matches.
+fn stage_and_desk(h: HostSession) -> Result<(Stage, Desk), NoSuchCase>
+    ensures { result ≡ named (is_state h.state && is_flag h.looped.set && is_flag h.tail.sounding && is_flag h.capturing) (stage_of h, (session_of h).desk) }
 {
-    let bank = Bank {
-        used: h.used,
-        last: h.last,
-        clips: clips_of(h),
-    };
-    let settings = h.settings;
-    Session {
-        settings,
-        bank,
-        stage: stage_of(h),
-        queued: h.queued,
-        desk: desk_of(h),
+    let stage = stage_of(h)?;
+    let desk = desk_of(h)?;
+    Ok((stage, desk))
+}
+
+impl TryFrom<HostSession> for Session {
+    type Error = NoSuchCase;
+
+    ghost try_from_gives = { λ h r. r ≡ named (is_session h) (session_of h) };
+
+    /// The session that it matches, if each of its numbers names a case.
+    fn try_from(h: HostSession) -> Result<Self, NoSuchCase> {
+        let clips = clips_of(h)?;
+        let (stage, desk) = stage_and_desk(h)?;
+        let bank = Bank {
+            used: h.used,
+            last: h.last,
+            clips,
+        };
+        let settings = h.settings;
+        Ok(Session {
+            settings,
+            bank,
+            stage,
+            queued: h.queued,
+            desk,
+        })
     }
 }
 
@@ -553,115 +539,122 @@ fn kept(
         state: state_number(state),
         position,
         cursor,
-        looped: loop_numbers(looped),
+        looped: looped.into(),
         laps: transport.laps,
         song,
         master,
-        tail: tail_numbers(tail),
+        tail: tail.into(),
         voices,
         counters,
         queued,
         number: desk.number,
         deepest: desk.deepest,
         dropped: desk.dropped,
-        capturing: flag_number(desk.capturing),
+        capturing: u32::from(desk.capturing),
         captured: desk.captured,
     }
 }
 
-/// A session as a host keeps it.
-fn host_of(s: Session) -> HostSession
-    ensures { result ≡ host_of s }
-{
-    let settings = s.settings;
-    let bank = s.bank;
-    let clips = clips_numbers(bank);
-    let stage = s.stage;
-    let desk = s.desk;
-    kept(settings, bank.used, bank.last, clips, stage, s.queued, desk)
+impl From<Session> for HostSession {
+    ghost from_gives = { λ s r. r ≡ host_of s };
+
+    /// A session as a host keeps it.
+    fn from(s: Session) -> HostSession {
+        let settings = s.settings;
+        let bank = s.bank;
+        let clips = clips_numbers(bank);
+        let stage = s.stage;
+        let desk = s.desk;
+        kept(settings, bank.used, bank.last, clips, stage, s.queued, desk)
+    }
 }
 
 // ---- arguments
 
-/// One of the nine kinds that the ordinary submission takes: all but 5, a transition.
-fn is_submission(x: HostCommand) -> bool
-    ensures { result ≡ is_submission x }
-{
-    (1 <= x.kind) & (x.kind <= 10) & (x.kind != 5)
-}
+impl TryFrom<HostCommand> for Submission {
+    type Error = NoSuchCase;
 
-fn submission_of(x: HostCommand) -> Submission
-    ensures { result ≡ submission_of x }
-{
-    let kind = x.kind;
-    let gain = x.gain;
-    let clip = x.clip;
-    let frame = x.frame;
-    let end = x.end;
-    match kind {
-        2 => Submission::Pause,
-        3 => Submission::Stop,
-        4 => Submission::Seek(frame),
-        6 => Submission::Loop(frame, end),
-        7 => Submission::ClearLoop,
-        8 => Submission::Gain(gain),
-        9 => Submission::Swap(clip),
-        10 => Submission::Stinger(clip, gain),
-        _ => Submission::Play,
+    ghost try_from_gives = { λ x r. r ≡ named (is_submission x) (submission_of x) };
+
+    /// One of the nine kinds that the ordinary submission takes: all but 5, a transition.
+    fn try_from(x: HostCommand) -> Result<Self, NoSuchCase> {
+        let kind = x.kind;
+        let gain = x.gain;
+        let clip = x.clip;
+        let frame = x.frame;
+        let end = x.end;
+        match kind {
+            1 => Ok(Submission::Play),
+            2 => Ok(Submission::Pause),
+            3 => Ok(Submission::Stop),
+            4 => Ok(Submission::Seek(frame)),
+            6 => Ok(Submission::Loop(frame, end)),
+            7 => Ok(Submission::ClearLoop),
+            8 => Ok(Submission::Gain(gain)),
+            9 => Ok(Submission::Swap(clip)),
+            10 => Ok(Submission::Stinger(clip, gain)),
+            _ => Err(NoSuchCase),
+        }
     }
 }
 
-/// At once, at a clock frame or at a song frame.
-fn is_at(x: HostAt) -> bool
-    ensures { result ≡ is_at x }
-{
-    (1 <= x.kind) & (x.kind <= 3)
-}
+impl TryFrom<HostAt> for At {
+    type Error = NoSuchCase;
 
-fn at_of(x: HostAt) -> At
-    ensures { result ≡ at_of x }
-{
-    let kind = x.kind;
-    match kind {
-        2 => At::Frame(ClockFrame(x.frame)),
-        3 => At::Song(SongFrame(x.frame)),
-        _ => At::Immediate,
+    ghost try_from_gives = { λ x r. r ≡ named (is_at x) (at_of x) };
+
+    /// At once, at a clock frame or at a song frame.
+    fn try_from(x: HostAt) -> Result<Self, NoSuchCase> {
+        let kind = x.kind;
+        match kind {
+            1 => Ok(At::Immediate),
+            2 => Ok(At::Frame(ClockFrame(x.frame))),
+            3 => Ok(At::Song(SongFrame(x.frame))),
+            _ => Err(NoSuchCase),
+        }
     }
 }
 
-/// Its state and its loop name cases.
-fn is_snapshot(x: HostSnapshot) -> bool
-    ensures { result ≡ is_snapshot x }
+/// A command with when it is due.
+fn due(command: HostCommand, at: HostAt) -> Result<(Submission, At), NoSuchCase>
+    ensures { result ≡ named (is_submission command && is_at at) (submission_of command, at_of at) }
 {
-    let state = is_state(x.state);
-    let looped = is_flag(x.looped.set);
-    state & looped
+    let x = Submission::try_from(command)?;
+    let due = At::try_from(at)?;
+    Ok((x, due))
 }
 
-fn snapshot_of(x: HostSnapshot) -> PerformanceSnapshot
-    ensures { result ≡ snapshot_of x }
-{
-    let position = x.position;
-    let looped = x.looped;
-    PerformanceSnapshot {
-        position,
-        state: state_of(x.state),
-        gain: x.gain,
-        looped: loop_of(looped),
+impl TryFrom<HostSnapshot> for PerformanceSnapshot {
+    type Error = NoSuchCase;
+
+    ghost try_from_gives = { λ x r. r ≡ named (is_snapshot x) (snapshot_of x) };
+
+    /// Its state and its loop name cases.
+    fn try_from(x: HostSnapshot) -> Result<Self, NoSuchCase> {
+        let position = x.position;
+        let looped = x.looped;
+        Ok(PerformanceSnapshot {
+            position,
+            state: state_of(x.state)?,
+            gain: x.gain,
+            looped: looped.try_into()?,
+        })
     }
 }
 
-fn snapshot_numbers(x: PerformanceSnapshot) -> HostSnapshot
-    ensures { result ≡ snapshot_numbers x }
-{
-    let position = x.position;
-    let state = x.state;
-    let looped = x.looped;
-    HostSnapshot {
-        position,
-        state: state_number(state),
-        gain: x.gain,
-        looped: loop_numbers(looped),
+impl From<PerformanceSnapshot> for HostSnapshot {
+    ghost from_gives = { λ x r. r ≡ snapshot_numbers x };
+
+    fn from(x: PerformanceSnapshot) -> HostSnapshot {
+        let position = x.position;
+        let state = x.state;
+        let looped = x.looped;
+        HostSnapshot {
+            position,
+            state: state_number(state),
+            gain: x.gain,
+            looped: looped.into(),
+        }
     }
 }
 
@@ -681,22 +674,28 @@ fn turned(number: u32, h: HostSession) -> HostSession
     h
 }
 
-/// 1 if no session matches; of an argument that names no case 1 if the session is not well formed, else the host's own
-/// number; 0 if the call may say.
-fn weigh(h: HostSession, queue: &[u64], capture: &[u64], named: bool) -> u32
-    ensures { result ≡ weigh_host h queue.now capture.now named }
+/// The session with what else a call needs, or the number of its refusal: 1 if no session matches; of an argument that names
+/// no case 1 if the session is not well formed, else the host's own number.
+fn admit<A: Copy>(
+    h: HostSession,
+    queue: &[u64],
+    capture: &[u64],
+    argument: Result<A, NoSuchCase>,
+) -> Result<(Session, A), u32>
+    ensures { result ≡ admit_host h queue.now capture.now argument }
 {
-    if !is_session(h) {
-        return 1;
+    let Ok(s) = Session::try_from(h) else {
+        return Err(1);
+    };
+    match argument {
+        Ok(x) => Ok((s, x)),
+        Err(_) => {
+            if session::well_formed(s, queue, capture) {
+                return Err(NO_SUCH_CASE);
+            }
+            Err(1)
+        }
     }
-    if named {
-        return 0;
-    }
-    let s = session_of(h);
-    if session::well_formed(s, queue, capture) {
-        return NO_SUCH_CASE;
-    }
-    1
 }
 
 fn refused(number: u32, h: HostSession) -> HostAnswered
@@ -716,7 +715,7 @@ fn answered(h: HostSession, r: Answered<()>) -> HostAnswered
     match answer {
         Ok(()) => HostAnswered {
             refusal: 0,
-            session: host_of(s),
+            session: s.into(),
         },
         Err(k) => refused(k.number(), h),
     }
@@ -741,7 +740,7 @@ fn loaded(h: HostSession, r: Answered<Handle>) -> HostLoaded
         Ok(handle) => HostLoaded {
             refusal: 0,
             handle,
-            session: host_of(s),
+            session: s.into(),
         },
         Err(k) => load_refused(k.number(), h),
     }
@@ -752,7 +751,7 @@ fn opened(r: Answered<Handle>) -> HostLoaded
     ensures { result ≡ opened_by r }
 {
     let s = r.session;
-    loaded(host_of(s), r)
+    loaded(s.into(), r)
 }
 
 fn submit_refused(number: u32, h: HostSession) -> HostSubmitted
@@ -774,7 +773,7 @@ fn submitted(h: HostSession, r: Answered<u64>) -> HostSubmitted
         Ok(number) => HostSubmitted {
             refusal: 0,
             number,
-            session: host_of(s),
+            session: s.into(),
         },
         Err(k) => submit_refused(k.number(), h),
     }
@@ -814,7 +813,7 @@ fn pumped(h: HostSession, x: Pumped) -> HostPumped
             frames: made.frames,
             passes: made.passes,
             ring: r,
-            session: host_of(s),
+            session: s.into(),
         },
         Err(k) => pump_refused(k.number(), h, r),
     }
@@ -898,7 +897,7 @@ fn replayed(h: HostSession, r: Answered<Report>) -> HostReplayed
         Ok(report) => HostReplayed {
             refusal: 0,
             report,
-            session: host_of(s),
+            session: s.into(),
         },
         Err(k) => replay_refused(k.number(), h),
     }
@@ -923,7 +922,7 @@ fn stopped(h: HostSession, r: Answered<usize>) -> HostStopped
         Ok(copied) => HostStopped {
             refusal: 0,
             copied,
-            session: host_of(s),
+            session: s.into(),
         },
         Err(k) => stop_refused(k.number(), h),
     }
@@ -937,7 +936,7 @@ fn no_snapshot() -> HostSnapshot
         position: SongFrame(0),
         state: 0,
         gain: 0.0,
-        looped: loop_numbers(None),
+        looped: None.into(),
     }
 }
 
@@ -959,8 +958,8 @@ fn snapped(h: HostSession, r: Answered<PerformanceSnapshot>) -> HostSnapped
     match answer {
         Ok(x) => HostSnapped {
             refusal: 0,
-            snapshot: snapshot_numbers(x),
-            session: host_of(s),
+            snapshot: x.into(),
+            session: s.into(),
         },
         Err(k) => snapshot_refused(k.number(), h),
     }
@@ -999,7 +998,7 @@ fn metered(h: HostSession, r: Answered<PerformanceMetrics>) -> HostMetrics
         Ok(metrics) => HostMetrics {
             refusal: 0,
             metrics,
-            session: host_of(s),
+            session: s.into(),
         },
         Err(k) => metrics_refused(k.number(), h),
     }
@@ -1036,14 +1035,13 @@ pub fn threshreed_load(
 ) -> HostLoaded
     ensures { ◌≡◌ {A = HostLoaded × List Float} (result, pool.new) (load_host h queue.now capture.now pool.old samples.now kind extent rate) }
 {
-    let first = weigh(h, queue, capture, is_kind(kind));
-    if first != 0 {
-        return load_refused(first, h);
+    match admit(h, queue, capture, kind_of(kind, extent)) {
+        Err(number) => load_refused(number, h),
+        Ok((s, kind)) => {
+            let r = clips::load(s, queue, capture, pool, samples, kind, rate);
+            loaded(h, r)
+        }
     }
-    let s = session_of(h);
-    let named = kind_of(kind, extent);
-    let r = clips::load(s, queue, capture, pool, samples, named, rate);
-    loaded(h, r)
 }
 
 /// Retires a clip that nothing holds.
@@ -1055,13 +1053,13 @@ pub fn threshreed_retire(
 ) -> HostAnswered
     ensures { result ≡ retire_host h queue.now capture.now clip }
 {
-    let first = weigh(h, queue, capture, true);
-    if first != 0 {
-        return refused(first, h);
+    match admit(h, queue, capture, Ok(())) {
+        Err(number) => refused(number, h),
+        Ok((s, ())) => {
+            let r = clips::retire(s, queue, capture, clip);
+            answered(h, r)
+        }
     }
-    let s = session_of(h);
-    let r = clips::retire(s, queue, capture, clip);
-    answered(h, r)
 }
 
 /// Submits a command of one of nine kinds.
@@ -1074,20 +1072,13 @@ pub fn threshreed_submit(
 ) -> HostSubmitted
     ensures { ◌≡◌ {A = HostSubmitted × List ℕ × List ℕ} (result, queue.new, capture.new) (submit_host h queue.old capture.old command at) }
 {
-    let first = weigh(
-        h,
-        &queue[..],
-        &capture[..],
-        is_submission(command) & is_at(at),
-    );
-    if first != 0 {
-        return submit_refused(first, h);
+    match admit(h, &queue[..], &capture[..], due(command, at)) {
+        Err(number) => submit_refused(number, h),
+        Ok((s, (x, due))) => {
+            let r = submission::submit(s, queue, capture, x, due);
+            submitted(h, r)
+        }
     }
-    let s = session_of(h);
-    let x = submission_of(command);
-    let due = at_of(at);
-    let r = submission::submit(s, queue, capture, x, due);
-    submitted(h, r)
 }
 
 /// Submits a transition in place of every queued one.
@@ -1100,14 +1091,13 @@ pub fn threshreed_transition(
 ) -> HostSubmitted
     ensures { ◌≡◌ {A = HostSubmitted × List ℕ × List ℕ} (result, queue.new, capture.new) (transition_host h queue.old capture.old frame at) }
 {
-    let first = weigh(h, &queue[..], &capture[..], is_at(at));
-    if first != 0 {
-        return submit_refused(first, h);
+    match admit(h, &queue[..], &capture[..], at.try_into()) {
+        Err(number) => submit_refused(number, h),
+        Ok((s, due)) => {
+            let r = submission::transition(s, queue, capture, frame, due);
+            submitted(h, r)
+        }
     }
-    let s = session_of(h);
-    let due = at_of(at);
-    let r = submission::transition(s, queue, capture, frame, due);
-    submitted(h, r)
 }
 
 /// Queues the records of a list at their frames.
@@ -1119,13 +1109,13 @@ pub fn threshreed_replay(
 ) -> HostReplayed
     ensures { ◌≡◌ {A = HostReplayed × List ℕ} (result, queue.new) (replay_host h queue.old capture.now list.now) }
 {
-    let first = weigh(h, &queue[..], capture, true);
-    if first != 0 {
-        return replay_refused(first, h);
+    match admit(h, &queue[..], capture, Ok(())) {
+        Err(number) => replay_refused(number, h),
+        Ok((s, ())) => {
+            let r = submission::replay(s, queue, capture, list);
+            replayed(h, r)
+        }
     }
-    let s = session_of(h);
-    let r = submission::replay(s, queue, capture, list);
-    replayed(h, r)
 }
 
 /// Makes a block: half as many frames as the output has samples.
@@ -1138,28 +1128,26 @@ pub fn threshreed_block(
 ) -> HostBlocked
     ensures { ◌≡◌ {A = HostBlocked × List Float} (result, out.new) (block_host h queue.now capture.now pool.now out.old) }
 {
-    let c = h.clips[0];
-    let first = clip_of(c);
+    let blank = Bank::empty();
+    let slots = blank.clips;
     let mut bank = Bank {
         used: h.used,
         last: h.last,
-        clips: [first; 32],
+        clips: slots,
     };
     let mut clips = h.clips;
-    let mut kinds = true;
     for i in 0..32 {
         let c = h.clips[i];
-        let clip = clip_of(c);
-        kinds = kinds & slot_named(h.used, i, c.kind);
+        let Ok(clip) = slot_of(h.used, i, c) else {
+            return block_refused(1, h);
+        };
         bank.clips[i] = clip;
-        clips[i] = clip_numbers(clip);
+        clips[i] = HostClip::from(clip);
     }
-    if !all_named(kinds, h.state, h.looped.set, h.tail.sounding, h.capturing) {
+    let Ok((stage, desk)) = stage_and_desk(h) else {
         return block_refused(1, h);
-    }
+    };
     let settings = h.settings;
-    let stage = stage_of(h);
-    let desk = desk_of(h);
     let made = block::make(
         settings, bank, stage, h.queued, desk, queue, capture, pool, out,
     );
@@ -1195,13 +1183,13 @@ pub fn threshreed_pump(
 ) -> HostPumped
     ensures { ◌≡◌ {A = HostPumped × List Float} (result, store.new) (pump_host h queue.now capture.now pool.now r store.old frames) }
 {
-    let first = weigh(h, queue, capture, true);
-    if first != 0 {
-        return pump_refused(first, h, r);
+    match admit(h, queue, capture, Ok(())) {
+        Err(number) => pump_refused(number, h, r),
+        Ok((s, ())) => {
+            let x = pump::pump(s, queue, capture, pool, r, store, frames);
+            pumped(h, x)
+        }
     }
-    let s = session_of(h);
-    let x = pump::pump(s, queue, capture, pool, r, store, frames);
-    pumped(h, x)
 }
 
 /// Fills the callback's block from a ring's store: whole frames while there are any, and silence.
@@ -1240,13 +1228,13 @@ pub fn threshreed_salvage(file: &[u8], out: &mut [u8], list: &mut [u64]) -> Host
 pub fn threshreed_start_capture(h: HostSession, queue: &[u64], capture: &[u64]) -> HostAnswered
     ensures { result ≡ start_capture_host h queue.now capture.now }
 {
-    let first = weigh(h, queue, capture, true);
-    if first != 0 {
-        return refused(first, h);
+    match admit(h, queue, capture, Ok(())) {
+        Err(number) => refused(number, h),
+        Ok((s, ())) => {
+            let r = control::start_capture(s, queue, capture);
+            answered(h, r)
+        }
     }
-    let s = session_of(h);
-    let r = control::start_capture(s, queue, capture);
-    answered(h, r)
 }
 
 /// Stops capture and copies its records to the list's front.
@@ -1258,26 +1246,26 @@ pub fn threshreed_stop_capture(
 ) -> HostStopped
     ensures { ◌≡◌ {A = HostStopped × List ℕ} (result, list.new) (stop_capture_host h queue.now capture.now list.old) }
 {
-    let first = weigh(h, queue, capture, true);
-    if first != 0 {
-        return stop_refused(first, h);
+    match admit(h, queue, capture, Ok(())) {
+        Err(number) => stop_refused(number, h),
+        Ok((s, ())) => {
+            let r = control::stop_capture(s, queue, capture, list);
+            stopped(h, r)
+        }
     }
-    let s = session_of(h);
-    let r = control::stop_capture(s, queue, capture, list);
-    stopped(h, r)
 }
 
 /// Takes a control snapshot.
 pub fn threshreed_snapshot(h: HostSession, queue: &[u64], capture: &[u64]) -> HostSnapped
     ensures { result ≡ snapshot_host h queue.now capture.now }
 {
-    let first = weigh(h, queue, capture, true);
-    if first != 0 {
-        return snapshot_refused(first, h);
+    match admit(h, queue, capture, Ok(())) {
+        Err(number) => snapshot_refused(number, h),
+        Ok((s, ())) => {
+            let r = control::snapshot(s, queue, capture);
+            snapped(h, r)
+        }
     }
-    let s = session_of(h);
-    let r = control::snapshot(s, queue, capture);
-    snapped(h, r)
 }
 
 /// Applies a control snapshot.
@@ -1289,25 +1277,24 @@ pub fn threshreed_apply_snapshot(
 ) -> HostAnswered
     ensures { result ≡ apply_host h queue.now capture.now snapshot }
 {
-    let first = weigh(h, queue, capture, is_snapshot(snapshot));
-    if first != 0 {
-        return refused(first, h);
+    match admit(h, queue, capture, snapshot.try_into()) {
+        Err(number) => refused(number, h),
+        Ok((s, x)) => {
+            let r = control::apply_snapshot(s, queue, capture, x);
+            answered(h, r)
+        }
     }
-    let s = session_of(h);
-    let x = snapshot_of(snapshot);
-    let r = control::apply_snapshot(s, queue, capture, x);
-    answered(h, r)
 }
 
 /// Reads the metrics.
 pub fn threshreed_metrics(h: HostSession, queue: &[u64], capture: &[u64]) -> HostMetrics
     ensures { result ≡ metrics_host h queue.now capture.now }
 {
-    let first = weigh(h, queue, capture, true);
-    if first != 0 {
-        return metrics_refused(first, h);
+    match admit(h, queue, capture, Ok(())) {
+        Err(number) => metrics_refused(number, h),
+        Ok((s, ())) => {
+            let r = control::metrics(s, queue, capture);
+            metered(h, r)
+        }
     }
-    let s = session_of(h);
-    let r = control::metrics(s, queue, capture);
-    metered(h, r)
 }

@@ -43,7 +43,7 @@ fn dry_run_refused(number: u32, place: usize) -> HostDryRun
         song: Handle { slot: 0, serial: 0 },
         state: 0,
         position: SongFrame(0),
-        looped: host::loop_numbers(None),
+        looped: None.into(),
         laps: 0,
     }
 }
@@ -71,7 +71,7 @@ fn dry_run_done(d: DryDone) -> HostDryRun
         song,
         state: host::state_number(state),
         position,
-        looped: host::loop_numbers(looped),
+        looped: looped.into(),
         laps: t.laps,
     }
 }

@@ -12,7 +12,7 @@ loop-i-init c = (search rules, refl, refl)
 
 pub loop-i-preserved : goal.loop-i-preserved
 loop-i-preserved c =
-    (search rules, simp length-set c.loop-i.invariant.1, rw c.clip_numbers.ensures (map_step clip_numbers c.loop-i.clips c.args.b.clips c.loop-i.i _ (omega arith) (omega arith) c.loop-i.invariant.2))
+    (search rules, simp length-set c.loop-i.invariant.1, rw c.from.ensures (map_step clip_numbers c.loop-i.clips c.args.b.clips c.loop-i.i _ (omega arith) (omega arith) c.loop-i.invariant.2))
 
 pub returns : goal.returns
 returns c =

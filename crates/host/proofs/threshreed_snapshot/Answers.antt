@@ -1,14 +1,14 @@
 -- `threshreed_snapshot` meets its contract: weighed, then called.
+use mathlib.Core.Path.{refl}
+use mathlib.Core.Bool.{true}
 use Rattle.host.specs.Calls.{snapshot_host}
-use Rattle.host.proofs.Weighed.{call_refused, call_done}
+use Rattle.host.proofs.Named.{call_stays, call_does}
 use Rattle.host.proofs.threshreed_snapshot.Goals as goal
 
-pub returns-then-first-ne0 : goal.returns-then-first-ne0
+pub returns-in-Err : goal.returns-in-Err
 unfolding snapshot_host
-returns-then-first-ne0 c = call_refused _ _ _ _ c.weigh-first.ensures c.if-first-ne0.true (rw c.snapshot_refused.ensures)
+returns-in-Err c = call_stays c.args.h _ _ true tt _ refl _ _ _ c.in-Err.ensures (rw c.snapshot_refused.ensures)
 
-pub returns : goal.returns
+pub returns-in-Ok : goal.returns-in-Ok
 unfolding snapshot_host
-returns c =
-    call_done _ _ _ _ c.weigh-first.ensures c.if-first-ne0.false
-    (rw (c.snapped.ensures, ← c.session_of-s.ensures, ← c.snapshot-r.ensures))
+returns-in-Ok c = call_does c.args.h _ _ true tt _ refl _ _ _ _ c.in-Ok.ensures (λ e d. rw (c.snapped.ensures, ← e, ← c.snapshot-r.ensures))

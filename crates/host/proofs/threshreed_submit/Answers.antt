@@ -1,14 +1,15 @@
 -- `threshreed_submit` meets its contract: weighed, then called.
+use mathlib.Core.Path.{ap}
+use Rattle.timeline.specs.declared.Submission.{Submission}
+use Rattle.transport.specs.declared.At.{At}
 use Rattle.host.specs.Calls.{submit_host}
-use Rattle.host.proofs.Weighed.{call_refused, call_done}
+use Rattle.host.proofs.Named.{call_stays, call_does}
 use Rattle.host.proofs.threshreed_submit.Goals as goal
 
-pub returns-then-first-ne0 : goal.returns-then-first-ne0
+pub returns-in-Err : goal.returns-in-Err
 unfolding submit_host
-returns-then-first-ne0 c = call_refused _ _ _ _ (rw (c.is_at.ensures, c.is_submission.ensures) at c.weigh-first.ensures) c.if-first-ne0.true (rw c.submit_refused.ensures)
+returns-in-Err c = call_stays c.args.h _ _ _ _ _ c.due.ensures _ _ _ c.in-Err.ensures (rw c.submit_refused.ensures)
 
-pub returns : goal.returns
+pub returns-in-Ok : goal.returns-in-Ok
 unfolding submit_host
-returns c =
-    call_done _ _ _ _ (rw (c.is_at.ensures, c.is_submission.ensures) at c.weigh-first.ensures) c.if-first-ne0.false
-    (rw (c.submitted.ensures, ← c.session_of-s.ensures, ← c.submission_of-x.ensures, ← c.at_of-due.ensures, ← c.submit-r.ensures))
+returns-in-Ok c = call_does c.args.h _ _ _ _ _ c.due.ensures _ _ _ _ c.in-Ok.ensures (λ e d. rw (c.submitted.ensures, ← e, ← ap (λ (z : Submission × At). z.0) d, ← ap (λ (z : Submission × At). z.1) d, ← c.submit-r.ensures))
