@@ -7,7 +7,6 @@ use native.Mathlib.Omega.{arith}
 use lib.Dec.{eqb}
 use Rattle.std.specs.Prelude.{Result, Ok, Err}
 use Rattle.counts.specs.declared.SongFrame.{SongFrame}
-use Rattle.counts.proofs.Truth.{cond_both}
 use Rattle.bank.specs.declared.Kind.{Kind}
 use Rattle.bank.specs.Slots.{used_at}
 use Rattle.session.specs.declared.Session.{Session}

@@ -1,10 +1,9 @@
 -- A block over the parts of the session that a host's numbers match: its slots converted place by place, and what the block then gives. Assumes nothing.
 use mathlib.Core.Path.{◌≡◌, refl, sym, ap, subst, ◌∙◌}
-use mathlib.Core.Bool.{Bool, true, false, ◌&&◌}
+use mathlib.Core.Bool.{Bool, true, false}
 use mathlib.Core.List.{List, map}
 use Prim.Native.Nat.{ℕ, ◌+◌, ◌≤◌, ◌<◌}
 use native.Mathlib.Omega.{arith}
-use native.Mathlib.Numerals.{add-one}
 use lib.ListN.{length, get_or, take, set, length-map, length-set, get_or-map}
 use lib.Ieee.{Float}
 use borrow.Author.Count.{below_none, below_more}

@@ -1,5 +1,5 @@
 -- `admit` meets its contract: each return is past the tests before it.
-use mathlib.Core.Path.{sym, ap, ◌∙◌}
+use mathlib.Core.Path.{sym, ◌∙◌}
 use Rattle.host.proofs.Named.{named_is, named_not, admit_none, admit_fine, admit_unnamed, admit_ill}
 use Rattle.host.proofs.admit.Goals as goal
 

@@ -1,5 +1,5 @@
 -- `threshreed_block` meets its contract: its slots converted, then called over its parts.
-use mathlib.Core.Path.{ap, ◌∙◌}
+use mathlib.Core.Path.{ap}
 use native.Mathlib.Omega.{arith}
 use Rattle.stage.specs.declared.Stage.{Stage}
 use Rattle.session.specs.declared.Desk.{Desk}

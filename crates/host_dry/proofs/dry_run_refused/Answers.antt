@@ -3,4 +3,4 @@ use mathlib.Core.Path.{refl}
 use Rattle.host_dry.proofs.dry_run_refused.Goals as goal
 
 pub returns : goal.returns
-returns c = rw c.loop_numbers.ensures refl
+returns c = rw c.into.ensures refl
