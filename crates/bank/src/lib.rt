@@ -294,24 +294,26 @@ pub fn wrong_rate(rate: u32, x: Stands) -> bool
 }
 
 /// What is held is not stale, and of the right kind and rate.
-fn serves(rate: u32, c: Claim, x: Stands) -> bool
-    ensures { result ≡ not (is_stale x || wrong_kind c x || wrong_rate rate x) }
+fn serves(rate: u32, other_kind: bool, x: Stands) -> bool
+    ensures { result ≡ not (is_stale x || other_kind || wrong_rate rate x) }
 {
-    !(is_stale(x) | wrong_kind(c, x) | wrong_rate(rate, x))
+    !(is_stale(x) | other_kind | wrong_rate(rate, x))
 }
 
 /// A handle that is held as a song is live, of right kind and rate, in any bank that has these slots used and this clip in the handle's.
 pub fn song_held(used: u32, clip: Clip, rate: u32, h: Handle) -> bool
     ensures { (b : Bank) → b.used ≡ used → (h.slot < 32 → clip_of b h ≡ clip) → result ≡ claim_ok b rate (Song h) }
 {
-    serves(rate, Claim::Song(h), stands_by(used, clip, h))
+    let x = stands_by(used, clip, h);
+    serves(rate, stands_stinger(x), x)
 }
 
 /// The same of a handle that is held as a stinger.
 pub fn stinger_held(used: u32, clip: Clip, rate: u32, h: Handle) -> bool
     ensures { (b : Bank) → b.used ≡ used → (h.slot < 32 → clip_of b h ≡ clip) → result ≡ claim_ok b rate (Stinger h) }
 {
-    serves(rate, Claim::Stinger(h), stands_by(used, clip, h))
+    let x = stands_by(used, clip, h);
+    serves(rate, stands_song(x), x)
 }
 
 // ---- room
@@ -408,7 +410,7 @@ pub fn paste(pool: &mut [f32], at: usize, samples: &[f32])
     ensures { pool.new ≡ pasted pool.old at samples.now }
 {
     let e = at + samples.len();
-    pool[at..e].copy_from_slice(samples);
+    copies::copy(&mut pool[at..e], samples);
 }
 
 // ---- well formed

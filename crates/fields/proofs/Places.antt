@@ -3,15 +3,28 @@ use mathlib.Core.Path.{◌≡◌, refl, sym, ap, ◌∙◌}
 use mathlib.Core.Logic.{⊎_elim}
 use mathlib.Core.Bool.{Bool, true, false, ◌&&◌, cond}
 use mathlib.Core.List.{List}
-use Prim.Native.Nat.{ℕ, zero, suc, ◌<◌, ◌≤◌}
+use Prim.Native.Nat.{ℕ, zero, suc, ◌-◌, ◌<◌, ◌≤◌}
+use native.Mathlib.Nat.{not-suc-le-zero}
 use native.Mathlib.Omega.{arith}
-use borrow.Author.Tests.{eqb-true, eqb-false, eq-eqb, lt-ltb, ltb-true}
+use borrow.Author.Tests.{eqb-true, eqb-false, eq-eqb, ne_eqb, lt-ltb, ltb-true}
 use lib.ListN.{get_or}
 use lib.Dec.{ltb, eqb}
 use Rattle.counts.specs.Below.{any_below}
 use Rattle.counts.proofs.Below.{any_true}
 use Rattle.counts.proofs.Truth.{and_true, and_l, and_r, lt_or_le, never}
 use Rattle.fields.specs.Clips.{is_handle, is_listed, handle_at, twice_at, listed_twice, place_below, clip_byte}
+
+module _ (clips : List ℕ) (w : ℕ) where
+  -- one step of the search, from above
+  pub place_here : (k : ℕ) → 0 < k → get_or clips (k - 1) 0 ≡ w → place_below clips w k ≡ k - 1
+  unfolding place_below
+  place_here zero h e = absurd (not-suc-le-zero h)
+  place_here (suc k) h e = let d : suc k - 1 ≡ k = omega arith in rw (d, eq-eqb (get_or clips k 0) w (rw d at e)) refl
+
+  pub place_on : (k : ℕ) → 0 < k → (get_or clips (k - 1) 0 ≡ w → ⊥) → place_below clips w k ≡ place_below clips w (k - 1)
+  unfolding place_below
+  place_on zero h e = absurd (not-suc-le-zero h)
+  place_on (suc k) h e = let d : suc k - 1 ≡ k = omega arith in rw (d, ne_eqb (get_or clips k 0) w (rw d at e)) refl
 
 place_found : (clips : List ℕ) (w k : ℕ) → k ≤ 32 → (place_below clips w k ≡ 32 → ⊥) → (place_below clips w k < k) × (get_or clips (place_below clips w k) 0 ≡ w)
 unfolding place_below

@@ -138,7 +138,13 @@ fn stands_below(clips: &[u64; 32], i: usize) -> bool
     requires { i < 32 }
     ensures { result ≡ any_below i (λ j. eqb (get_or clips.now j 0) (get_or clips.now i 0)) }
 {
-    clips[..i].contains(&clips[i])
+    let w = clips[i];
+    for j in 0..i {
+        if clips[j] == w {
+            return true;
+        }
+    }
+    false
 }
 
 /// The handle at i stands further down too.

@@ -32,13 +32,15 @@ pub fn bits(x: f32) -> u64 {
     u64::from(x.to_bits())
 }
 
-/// The whole part of a number's magnitude; 0 from 2^29 on.
+/// The whole part of a number's magnitude, read off its bits; 0 from 2^29 on.
 pub fn whole(x: f32) -> u64 {
-    let magnitude = x.abs();
-    if magnitude < 536870912.0 {
-        return std::num::saturating_f32_to_u64(magnitude);
+    let magnitude = bits(x) % 2147483648;
+    let exponent = magnitude / 8388608;
+    if exponent < 127 || 155 < exponent {
+        return 0;
     }
-    0
+    let digits = 8388608 + magnitude % 8388608;
+    (digits * 32) >> (155 - exponent)
 }
 
 /// A sample, which prints in full to the 2^24th if its magnitude is at most 16, and else as a word.

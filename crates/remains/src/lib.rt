@@ -184,7 +184,7 @@ fn copy_part(file: &[u8], from: usize, n: usize, out: &mut [u8], at: usize)
     requires { (from + n ≤ length file.now) × (at + n ≤ length out.old) }
     ensures { out.new ≡ sets out.old at (take n (drop from file.now)) }
 {
-    out[at..at + n].copy_from_slice(&file[from..from + n]);
+    copies::copy(&mut out[at..at + n], &file[from..from + n]);
 }
 
 /// Writes the kept fields behind the fresh file's first one, and gives the place behind them.

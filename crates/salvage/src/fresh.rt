@@ -76,7 +76,8 @@ fn make(rt: &HostRuntime, name: &[u8]) -> io::Result<File> {
 }
 
 /// Writes a file, and has it stored.
-fn store(file: &mut File, bytes: &[u8]) -> io::Result<()> {
+fn store(file: File, bytes: &[u8]) -> io::Result<()> {
+    let mut file = file;
     file.write_all(bytes)?;
     file.sync_all()
 }
@@ -93,38 +94,34 @@ fn remove(rt: &HostRuntime, name: &[u8]) {
     }
 }
 
-/// Writes a file that is made anew. Nothing is left of one that is not stored whole.
-fn fill<'a>(rt: &HostRuntime, name: &'a [u8], bytes: &[u8]) -> Result<(), Failure<'a>> {
-    let mut file = make(rt, name).map_err(|e| Failure::new(b"make", name, e))?;
-    let stored = store(&mut file, bytes);
-    if stored.is_err() {
-        remove(rt, name);
-    }
-    stored.map_err(|e| Failure::new(b"write", name, e))
-}
-
 /// Writes the fresh file under a part's name, and gives it its own once it is whole.
 fn write_by<'a>(
     rt: &HostRuntime,
+    file: File,
     name: &'a [u8],
     part: &'a [u8],
     bytes: &[u8],
 ) -> Result<(), Failure<'a>> {
-    fill(rt, part, bytes)?;
-    let renamed = rename(rt, part, name);
-    if renamed.is_err() {
-        remove(rt, part);
-    }
-    renamed.map_err(|e| Failure::new(b"write", name, e))
+    store(file, bytes).map_err(|e| Failure::new(b"write", part, e))?;
+    rename(rt, part, name).map_err(|e| Failure::new(b"write", name, e))
 }
 
-/// Writes the fresh file, or says why it is not written.
+/// Writes the fresh file, or says why it is not written, after which nothing is left of its part.
 pub fn write(rt: &HostRuntime, name: &[u8], bytes: &[u8]) -> bool {
-    let part = Part::of(name);
-    match write_by(rt, name, part.name(), bytes) {
+    let whole = Part::of(name);
+    let part = whole.name();
+    let file = match make(rt, part) {
+        Ok(file) => file,
+        Err(e) => {
+            Failure::new(b"make", part, e).say(rt);
+            return false;
+        }
+    };
+    match write_by(rt, file, name, part, bytes) {
         Ok(()) => true,
         Err(failure) => {
             failure.say(rt);
+            remove(rt, part);
             false
         }
     }

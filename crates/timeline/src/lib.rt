@@ -413,11 +413,18 @@ pub fn drop_captured(capture: &mut [u64], m: usize, store: &[u64], n: usize) -> 
 }
 
 /// How many of n records are of a kind.
+#[tactic(auto, using(crate::proofs::Steps::count_in, crate::proofs::Steps::count_out), unfolding(counts::specs::Below::count_below))]
 fn count_kind(store: &[u64], n: usize, kind: u64) -> usize
     requires { n * 5 ≤ length store.now }
     ensures { result ≡ count_below n (λ j. eqb (row_at store.now j).kind kind) }
 {
-    (0..n).filter(|&j| row_at(store, j).kind == kind).count()
+    let mut k = 0;
+    for j in 0..n {
+        if row_at(store, j).kind == kind {
+            k += 1;
+        }
+    }
+    k
 }
 
 /// How many stingers are queued.
@@ -452,7 +459,7 @@ pub fn copy_records(list: &mut [u64], capture: &[u64], n: usize)
     ensures { list.new ≡ copied capture.now n list.old }
 {
     let e = n * 5;
-    list[..e].copy_from_slice(&capture[..e]);
+    copies::copy(&mut list[..e], &capture[..e]);
 }
 
 /// A Swap or a Stinger that holds the handle.
@@ -472,10 +479,11 @@ pub fn holds(store: &[u64], n: usize, h: Handle) -> bool
 }
 
 /// Strictly before, by (frame, submission number).
+#[tactic(auto, unfolding(crate::specs::Record::sooner))]
 fn sooner(x: Row, y: Row) -> bool
     ensures { result ≡ sooner x y }
 {
-    (x.at, x.number) < (y.at, y.number)
+    x.at < y.at || (x.at == y.at) & (x.number < y.number)
 }
 
 /// Record j executes strictly before the one below it.

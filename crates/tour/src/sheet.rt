@@ -125,13 +125,11 @@ fn state(s: TransportState) -> &'static str {
 
 /// Clock, position, laps and state.
 fn stands(rt: &impl Print, s: Session) -> io::Result<()> {
-    let clock = s.clock().0;
-    let position = s.position().0;
-    let laps = s.laps();
-    print!(rt;
-        "\n{clock:>6}{position:>6}{laps:>6}  {:<9}",
-        state(s.state())
-    )
+    print!(rt; "\n")?;
+    for n in [s.clock().0, s.position().0, s.laps()] {
+        print::column(rt, n, 6)?;
+    }
+    print!(rt; "  {:<9}", state(s.state()))
 }
 
 /// The song, the tail and the voices.

@@ -4,4 +4,4 @@ use Rattle.bank.proofs.stinger_held.Goals as goal
 
 pub returns : goal.returns
 unfolding claim_ok
-returns c b e f = simp (c.serves.ensures, c.stands_by.ensures b e f)
+returns c b e f = simp (c.serves.ensures, c.stands_song.ensures, c.stands_by-x.ensures b e f)

@@ -12,5 +12,5 @@ returns c =
     let a = c.args in
     let e : a.from + a.n - a.from ≡ a.n = omega arith in
     let m : length (take a.n (drop a.from a.file.now)) ≡ a.n = length-take-le a.n (drop a.from a.file.now) (rw length-drop (omega arith)) in
-    let w = rw e at c.copy_from_slice.ensures.after in
+    let w = rw e at c.copy.ensures in
     rw w (part_sets a.out.now (take a.n (drop a.from a.file.now)) a.at (a.at + a.n) (omega arith) (omega arith))

@@ -5,4 +5,4 @@ use Rattle.timeline.proofs.copy_records.Goals as goal
 
 pub returns : goal.returns
 unfolding copied
-returns c = rw c.copy_from_slice.ensures.after refl
+returns c = rw c.copy.ensures refl
