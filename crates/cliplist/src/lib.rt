@@ -1,7 +1,7 @@
 //! A list of the clips that a session has: the session that is made of it, with no sample loaded.
 #![tactic(auto)]
 
-ghost use Rattle.std.specs.Prelude.{Some, ◌≡◌, true, false, not, ◌&&◌, [], ◌+◌, ◌*◌, ◌<◌, ◌≤◌, ltb, length, replicate};
+ghost use Rattle.std.specs.Prelude.{Some, None, MatchOption, ◌≡◌, true, false, not, ◌&&◌, [], ◌+◌, ◌*◌, ◌<◌, ◌≤◌, ltb, length, replicate};
 ghost use Rattle.bank.specs.Slots.{used_at};
 ghost use Rattle.session.specs.WellFormed.{well_formed};
 ghost use Rattle.cliplist.specs.Start.{listed_in, no_clips};
@@ -149,25 +149,26 @@ fn listed_in(b: Bank, e: Entry, start: u64) -> Bank
     }
 }
 
-/// One clip more, behind the others, if it fits.
+/// One clip more, behind the others, if it fits; else the listing stays.
 #[tactic(auto, unfolding(crate::specs::Words::clip_fits, crate::specs::Words::clip_more))]
-fn list_clip(x: Listing, e: Entry) -> Option<Listing>
-    ensures { result ≡ clip_more x e }
+fn list_clip(x: &mut Listing, e: Entry) -> Option<()>
+    ensures { MatchOption result ((clip_more x.old e ≡ None) × (x.new ≡ x.old)) (λ _. clip_more x.old e ≡ Some x.new) }
 {
-    if !clip_fits(x, e) {
+    if !clip_fits(*x, e) {
         return None;
     }
-    Some(Listing {
+    *x = Listing {
         bank: listed_in(x.bank, e, x.total),
         total: x.total + e.frames,
-    })
+    };
+    Some(())
 }
 
-/// One line more.
+/// One line more, if it fits; else the listing stays.
 #[tactic(auto, using(crate::proofs::Lines::lined_not, crate::proofs::Lines::lined_more))]
-fn list_line(x: Listing, words: &[u64], i: usize) -> Option<Listing>
-    requires { (i * 6 + 6 ≤ length words.now) × Lined words.now i (Some x) }
-    ensures { Lined words.now (i + 1) result }
+fn list_line(x: &mut Listing, words: &[u64], i: usize) -> Option<()>
+    requires { (i * 6 + 6 ≤ length words.now) × Lined words.now i (Some x.old) }
+    ensures { MatchOption result (Lined words.now (i + 1) None × (x.new ≡ x.old)) (λ _. Lined words.now (i + 1) (Some x.new)) }
 {
     let line = line_at(words, i);
     if line_reads(line) {
@@ -187,7 +188,7 @@ fn read_lines(words: &[u64], lines: usize) -> Option<Listing>
         total: 0,
     };
     for i in 0..lines {
-        x = list_line(x, words, i)?;
+        list_line(&mut x, words, i)?;
     }
     Some(x)
 }
