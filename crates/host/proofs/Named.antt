@@ -161,3 +161,12 @@ module _ {A : Type 0} (h : HostSession) (q c : List ℕ) where
         go : (b : Bool) → ◌≡◌ {A = Result (Session × A) ℕ} (Ok (s, y)) (admit_host h q c (named b v)) → r ≡ unless (weigh_host h q c b) f x
         go true d = number (weigh_host h q c true) d
         go false d = absurd (never_both _ _ d)
+
+module _ {R : Type 0} {r : R} (h : HostSession) (q c : List ℕ) (f : ℕ → R) (x : R) where
+  -- where no session matches, it gives what it gives for 1,
+  pub call_unmatched : (b : Bool) → is_session h ≡ false → r ≡ f 1 → r ≡ unless (weigh_host h q c b) f x
+  call_unmatched b e g = call_refused 1 _ f x (sym (weighed_none h q c b e)) (λ z. absurd (omega arith)) g
+
+  -- and else, of a call with no argument that may name no case, what it does
+  pub call_matched : is_session h ≡ true → r ≡ x → r ≡ unless (weigh_host h q c true) f x
+  call_matched e g = call_done 0 _ f x (sym (weighed_fine h q c true e refl)) refl g

@@ -1,7 +1,7 @@
 //! The calls for C and Rust: a session without enums, by value in and out, and a function for each call, which `host_c` exports.
 #![tactic(auto)]
 
-ghost use Rattle.std.specs.Prelude.{◌≡◌, ◌&&◌, List, map, ℕ, ◌<◌, Float};
+ghost use Rattle.std.specs.Prelude.{◌≡◌, ◌&&◌, true, List, map, ℕ, ◌<◌, Float, Ok, Err, MatchResult};
 ghost use Rattle.bank.specs.declared.Clip.{Clip};
 ghost use Rattle.host.specs.Kept.{named, is_kind, kind_of, kind_number, clip_of, clip_numbers, is_state, state_of, state_number, is_flag, flag_of, loop_of, loop_numbers, tail_of, tail_numbers, slot_named, kinds_ok, is_session, stage_of, session_of, host_of};
 ghost use Rattle.host.specs.Arguments.{is_submission, submission_of, is_at, at_of, is_snapshot, snapshot_of, snapshot_numbers};
@@ -394,17 +394,16 @@ impl From<Option<Tail>> for HostTail {
 
 // ---- the session
 
-/// The clips that its slots hold: every used one holds a song or a stinger.
-fn clips_of(h: HostSession) -> Result<[Clip; 32], NoSuchCase>
-    ensures { result ≡ named (kinds_ok h) (map clip_of h.clips) }
+/// Puts the clips that its slots hold in their places, if every used one holds a song or a stinger.
+fn clips_of(h: &HostSession, clips: &mut [Clip; 32]) -> Result<(), NoSuchCase>
+    ensures kinds { result ≡ named (kinds_ok h.now) tt }
+    ensures clips { kinds_ok h.now ≡ true → clips.new ≡ map clip_of h.now.clips }
 {
-    let blank = Bank::empty();
-    let mut clips = blank.clips;
     for i in 0..32 {
         let c = h.clips[i];
         clips[i] = slot_of(h.used, i, c)?;
     }
-    Ok(clips)
+    Ok(())
 }
 
 fn clips_numbers(b: Bank) -> [HostClip; 32]
@@ -486,13 +485,11 @@ impl TryFrom<HostSession> for Session {
 
     /// The session that it matches, if each of its numbers names a case.
     fn try_from(h: HostSession) -> Result<Self, NoSuchCase> {
-        let clips = clips_of(h)?;
+        let mut bank = Bank::empty();
+        bank.used = h.used;
+        bank.last = h.last;
+        clips_of(&h, &mut bank.clips)?;
         let (stage, desk) = stage_and_desk(h)?;
-        let bank = Bank {
-            used: h.used,
-            last: h.last,
-            clips,
-        };
         let settings = h.settings;
         Ok(Session {
             settings,
@@ -674,21 +671,18 @@ fn turned(number: u32, h: HostSession) -> HostSession
     h
 }
 
-/// The session with what else a call needs, or the number of its refusal: 1 if no session matches; of an argument that names
-/// no case 1 if the session is not well formed, else the host's own number.
+/// What else a call needs, beside the session that matches, or the number of its refusal: of an argument that names no case 1
+/// if the session is not well formed, else the host's own number.
 fn admit<A: Copy>(
-    h: HostSession,
+    s: Session,
     queue: &[u64],
     capture: &[u64],
     argument: Result<A, NoSuchCase>,
-) -> Result<(Session, A), u32>
-    ensures { result ≡ admit_host h queue.now capture.now argument }
+) -> Result<A, u32>
+    ensures { (h : HostSession) → is_session h ≡ true → s ≡ session_of h → MatchResult result (λ x. admit_host h queue.now capture.now argument ≡ Ok (s, x)) (λ n. admit_host h queue.now capture.now argument ≡ Err n) }
 {
-    let Ok(s) = Session::try_from(h) else {
-        return Err(1);
-    };
     match argument {
-        Ok(x) => Ok((s, x)),
+        Ok(x) => Ok(x),
         Err(_) => {
             if session::well_formed(s, queue, capture) {
                 return Err(NO_SUCH_CASE);
@@ -715,7 +709,7 @@ fn answered(h: HostSession, r: Answered<()>) -> HostAnswered
     match answer {
         Ok(()) => HostAnswered {
             refusal: 0,
-            session: s.into(),
+            session: HostSession::from(s),
         },
         Err(k) => refused(k.number(), h),
     }
@@ -740,7 +734,7 @@ fn loaded(h: HostSession, r: Answered<Handle>) -> HostLoaded
         Ok(handle) => HostLoaded {
             refusal: 0,
             handle,
-            session: s.into(),
+            session: HostSession::from(s),
         },
         Err(k) => load_refused(k.number(), h),
     }
@@ -751,7 +745,7 @@ fn opened(r: Answered<Handle>) -> HostLoaded
     ensures { result ≡ opened_by r }
 {
     let s = r.session;
-    loaded(s.into(), r)
+    loaded(HostSession::from(s), r)
 }
 
 fn submit_refused(number: u32, h: HostSession) -> HostSubmitted
@@ -773,7 +767,7 @@ fn submitted(h: HostSession, r: Answered<u64>) -> HostSubmitted
         Ok(number) => HostSubmitted {
             refusal: 0,
             number,
-            session: s.into(),
+            session: HostSession::from(s),
         },
         Err(k) => submit_refused(k.number(), h),
     }
@@ -813,7 +807,7 @@ fn pumped(h: HostSession, x: Pumped) -> HostPumped
             frames: made.frames,
             passes: made.passes,
             ring: r,
-            session: s.into(),
+            session: HostSession::from(s),
         },
         Err(k) => pump_refused(k.number(), h, r),
     }
@@ -897,7 +891,7 @@ fn replayed(h: HostSession, r: Answered<Report>) -> HostReplayed
         Ok(report) => HostReplayed {
             refusal: 0,
             report,
-            session: s.into(),
+            session: HostSession::from(s),
         },
         Err(k) => replay_refused(k.number(), h),
     }
@@ -922,7 +916,7 @@ fn stopped(h: HostSession, r: Answered<usize>) -> HostStopped
         Ok(copied) => HostStopped {
             refusal: 0,
             copied,
-            session: s.into(),
+            session: HostSession::from(s),
         },
         Err(k) => stop_refused(k.number(), h),
     }
@@ -959,7 +953,7 @@ fn snapped(h: HostSession, r: Answered<PerformanceSnapshot>) -> HostSnapped
         Ok(x) => HostSnapped {
             refusal: 0,
             snapshot: x.into(),
-            session: s.into(),
+            session: HostSession::from(s),
         },
         Err(k) => snapshot_refused(k.number(), h),
     }
@@ -998,7 +992,7 @@ fn metered(h: HostSession, r: Answered<PerformanceMetrics>) -> HostMetrics
         Ok(metrics) => HostMetrics {
             refusal: 0,
             metrics,
-            session: s.into(),
+            session: HostSession::from(s),
         },
         Err(k) => metrics_refused(k.number(), h),
     }
@@ -1035,9 +1029,12 @@ pub fn threshreed_load(
 ) -> HostLoaded
     ensures { ◌≡◌ {A = HostLoaded × List Float} (result, pool.new) (load_host h queue.now capture.now pool.old samples.now kind extent rate) }
 {
-    match admit(h, queue, capture, kind_of(kind, extent)) {
+    let Ok(s) = Session::try_from(h) else {
+        return load_refused(1, h);
+    };
+    match admit(s, queue, capture, kind_of(kind, extent)) {
         Err(number) => load_refused(number, h),
-        Ok((s, kind)) => {
+        Ok(kind) => {
             let r = clips::load(s, queue, capture, pool, samples, kind, rate);
             loaded(h, r)
         }
@@ -1053,13 +1050,11 @@ pub fn threshreed_retire(
 ) -> HostAnswered
     ensures { result ≡ retire_host h queue.now capture.now clip }
 {
-    match admit(h, queue, capture, Ok(())) {
-        Err(number) => refused(number, h),
-        Ok((s, ())) => {
-            let r = clips::retire(s, queue, capture, clip);
-            answered(h, r)
-        }
-    }
+    let Ok(s) = Session::try_from(h) else {
+        return refused(1, h);
+    };
+    let r = clips::retire(s, queue, capture, clip);
+    answered(h, r)
 }
 
 /// Submits a command of one of nine kinds.
@@ -1072,9 +1067,12 @@ pub fn threshreed_submit(
 ) -> HostSubmitted
     ensures { ◌≡◌ {A = HostSubmitted × List ℕ × List ℕ} (result, queue.new, capture.new) (submit_host h queue.old capture.old command at) }
 {
-    match admit(h, &queue[..], &capture[..], due(command, at)) {
+    let Ok(s) = Session::try_from(h) else {
+        return submit_refused(1, h);
+    };
+    match admit(s, &queue[..], &capture[..], due(command, at)) {
         Err(number) => submit_refused(number, h),
-        Ok((s, (x, due))) => {
+        Ok((x, due)) => {
             let r = submission::submit(s, queue, capture, x, due);
             submitted(h, r)
         }
@@ -1091,9 +1089,12 @@ pub fn threshreed_transition(
 ) -> HostSubmitted
     ensures { ◌≡◌ {A = HostSubmitted × List ℕ × List ℕ} (result, queue.new, capture.new) (transition_host h queue.old capture.old frame at) }
 {
-    match admit(h, &queue[..], &capture[..], at.try_into()) {
+    let Ok(s) = Session::try_from(h) else {
+        return submit_refused(1, h);
+    };
+    match admit(s, &queue[..], &capture[..], at.try_into()) {
         Err(number) => submit_refused(number, h),
-        Ok((s, due)) => {
+        Ok(due) => {
             let r = submission::transition(s, queue, capture, frame, due);
             submitted(h, r)
         }
@@ -1109,13 +1110,11 @@ pub fn threshreed_replay(
 ) -> HostReplayed
     ensures { ◌≡◌ {A = HostReplayed × List ℕ} (result, queue.new) (replay_host h queue.old capture.now list.now) }
 {
-    match admit(h, &queue[..], capture, Ok(())) {
-        Err(number) => replay_refused(number, h),
-        Ok((s, ())) => {
-            let r = submission::replay(s, queue, capture, list);
-            replayed(h, r)
-        }
-    }
+    let Ok(s) = Session::try_from(h) else {
+        return replay_refused(1, h);
+    };
+    let r = submission::replay(s, queue, capture, list);
+    replayed(h, r)
 }
 
 /// Makes a block: half as many frames as the output has samples.
@@ -1183,13 +1182,11 @@ pub fn threshreed_pump(
 ) -> HostPumped
     ensures { ◌≡◌ {A = HostPumped × List Float} (result, store.new) (pump_host h queue.now capture.now pool.now r store.old frames) }
 {
-    match admit(h, queue, capture, Ok(())) {
-        Err(number) => pump_refused(number, h, r),
-        Ok((s, ())) => {
-            let x = pump::pump(s, queue, capture, pool, r, store, frames);
-            pumped(h, x)
-        }
-    }
+    let Ok(s) = Session::try_from(h) else {
+        return pump_refused(1, h, r);
+    };
+    let x = pump::pump(s, queue, capture, pool, r, store, frames);
+    pumped(h, x)
 }
 
 /// Fills the callback's block from a ring's store: whole frames while there are any, and silence.
@@ -1228,13 +1225,11 @@ pub fn threshreed_salvage(file: &[u8], out: &mut [u8], list: &mut [u64]) -> Host
 pub fn threshreed_start_capture(h: HostSession, queue: &[u64], capture: &[u64]) -> HostAnswered
     ensures { result ≡ start_capture_host h queue.now capture.now }
 {
-    match admit(h, queue, capture, Ok(())) {
-        Err(number) => refused(number, h),
-        Ok((s, ())) => {
-            let r = control::start_capture(s, queue, capture);
-            answered(h, r)
-        }
-    }
+    let Ok(s) = Session::try_from(h) else {
+        return refused(1, h);
+    };
+    let r = control::start_capture(s, queue, capture);
+    answered(h, r)
 }
 
 /// Stops capture and copies its records to the list's front.
@@ -1246,26 +1241,22 @@ pub fn threshreed_stop_capture(
 ) -> HostStopped
     ensures { ◌≡◌ {A = HostStopped × List ℕ} (result, list.new) (stop_capture_host h queue.now capture.now list.old) }
 {
-    match admit(h, queue, capture, Ok(())) {
-        Err(number) => stop_refused(number, h),
-        Ok((s, ())) => {
-            let r = control::stop_capture(s, queue, capture, list);
-            stopped(h, r)
-        }
-    }
+    let Ok(s) = Session::try_from(h) else {
+        return stop_refused(1, h);
+    };
+    let r = control::stop_capture(s, queue, capture, list);
+    stopped(h, r)
 }
 
 /// Takes a control snapshot.
 pub fn threshreed_snapshot(h: HostSession, queue: &[u64], capture: &[u64]) -> HostSnapped
     ensures { result ≡ snapshot_host h queue.now capture.now }
 {
-    match admit(h, queue, capture, Ok(())) {
-        Err(number) => snapshot_refused(number, h),
-        Ok((s, ())) => {
-            let r = control::snapshot(s, queue, capture);
-            snapped(h, r)
-        }
-    }
+    let Ok(s) = Session::try_from(h) else {
+        return snapshot_refused(1, h);
+    };
+    let r = control::snapshot(s, queue, capture);
+    snapped(h, r)
 }
 
 /// Applies a control snapshot.
@@ -1277,9 +1268,12 @@ pub fn threshreed_apply_snapshot(
 ) -> HostAnswered
     ensures { result ≡ apply_host h queue.now capture.now snapshot }
 {
-    match admit(h, queue, capture, snapshot.try_into()) {
+    let Ok(s) = Session::try_from(h) else {
+        return refused(1, h);
+    };
+    match admit(s, queue, capture, snapshot.try_into()) {
         Err(number) => refused(number, h),
-        Ok((s, x)) => {
+        Ok(x) => {
             let r = control::apply_snapshot(s, queue, capture, x);
             answered(h, r)
         }
@@ -1290,11 +1284,9 @@ pub fn threshreed_apply_snapshot(
 pub fn threshreed_metrics(h: HostSession, queue: &[u64], capture: &[u64]) -> HostMetrics
     ensures { result ≡ metrics_host h queue.now capture.now }
 {
-    match admit(h, queue, capture, Ok(())) {
-        Err(number) => metrics_refused(number, h),
-        Ok((s, ())) => {
-            let r = control::metrics(s, queue, capture);
-            metered(h, r)
-        }
-    }
+    let Ok(s) = Session::try_from(h) else {
+        return metrics_refused(1, h);
+    };
+    let r = control::metrics(s, queue, capture);
+    metered(h, r)
 }

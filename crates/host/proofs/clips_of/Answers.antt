@@ -18,16 +18,21 @@ loop-i-preserved c =
     let v = c.loop-i.invariant in (
       search rules,
       simp length-set v.1,
-      clips_turn c.args.h (omega arith) c.loop-i.clips c.loop-i.i _ _ c.loop-i-test.true v.1 v.2 c.in_ok-clips.ensures,
-      below_more _ _ v.3 (kind_here c.args.h c.loop-i.i _ (omega arith) (omega arith) ∙ (named_is _ _ _ c.in_ok-clips.ensures).0),
+      clips_turn c.args.h.now (omega arith) c.loop-i.clips c.loop-i.i _ _ c.loop-i-test.true v.1 v.2 c.in_ok-clips.ensures,
+      below_more _ _ v.3 (kind_here c.args.h.now c.loop-i.i _ (omega arith) (omega arith) ∙ (named_is _ _ _ c.in_ok-clips.ensures).0),
     )
 
 pub returns-in_err-clips : goal.returns-in_err-clips
 returns-in_err-clips c =
-    rw (kinds_not_at c.args.h c.loop-i.i _ (omega arith) c.loop-i-test.true (named_not _ _ _ c.in_err-clips.ensures)) (search rules)
+    let not = kinds_not_at c.args.h.now c.loop-i.i _ (omega arith) c.loop-i-test.true (named_not _ _ _ c.in_err-clips.ensures) in
+    record { kinds = rw not (search rules); clips = λ e. cc (e, not) }
 
 pub returns : goal.returns
 returns c =
     let v = c.loop-i.invariant in
-    let l : length c.args.h.clips ≡ 32 = omega arith in
-    rw (kinds_are c.args.h (λ k m. v.3 k (omega arith)), map_done clip_of c.loop-i.clips c.args.h.clips c.loop-i.i (omega arith) (omega arith) v.2)
+    let l : length c.args.h.now.clips ≡ 32 = omega arith in
+    let kinds = kinds_are c.args.h.now (λ k m. v.3 k (omega arith)) in
+    record {
+      kinds = rw kinds;
+      clips = λ e. map_done clip_of c.loop-i.clips c.args.h.now.clips c.loop-i.i (omega arith) (omega arith) v.2;
+    }

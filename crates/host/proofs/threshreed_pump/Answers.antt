@@ -1,14 +1,13 @@
--- `threshreed_pump` meets its contract: weighed, then called.
-use mathlib.Core.Path.{refl}
+-- `threshreed_pump` meets its contract: its session matched, then called.
 use mathlib.Core.Bool.{true}
 use Rattle.host.specs.Calls.{pump_host}
-use Rattle.host.proofs.Named.{call_stays, call_does}
+use Rattle.host.proofs.Named.{named_is, named_not, call_unmatched, call_matched}
 use Rattle.host.proofs.threshreed_pump.Goals as goal
 
-pub returns-in-Err : goal.returns-in-Err
+pub returns-in_default : goal.returns-in_default
 unfolding pump_host
-returns-in-Err c = call_stays c.args.h _ _ true tt _ refl _ _ _ c.in-Err.ensures (rw c.pump_refused.ensures)
+returns-in_default c = call_unmatched c.args.h _ _ _ _ true (named_not _ _ _ c.in_default.ensures) (rw c.pump_refused.ensures)
 
-pub returns-in-Ok : goal.returns-in-Ok
+pub returns : goal.returns
 unfolding pump_host
-returns-in-Ok c = call_does c.args.h _ _ true tt _ refl _ _ _ _ c.in-Ok.ensures (λ e d. rw (c.pumped.ensures, ← e, ← c.pump-x.ensures))
+returns c = let fine = named_is _ _ _ c.in-Ok.ensures in call_matched c.args.h _ _ _ _ fine.0 (rw (c.pumped.ensures, ← fine.1, ← c.pump-x.ensures))

@@ -1,15 +1,19 @@
--- `threshreed_submit` meets its contract: weighed, then called.
-use mathlib.Core.Path.{ap}
+-- `threshreed_submit` meets its contract: its session matched and its argument admitted, then called.
+use mathlib.Core.Path.{sym, ap}
 use Rattle.timeline.specs.declared.Submission.{Submission}
 use Rattle.transport.specs.declared.At.{At}
 use Rattle.host.specs.Calls.{submit_host}
-use Rattle.host.proofs.Named.{call_stays, call_does}
+use Rattle.host.proofs.Named.{named_is, named_not, call_unmatched, call_stays, call_does}
 use Rattle.host.proofs.threshreed_submit.Goals as goal
+
+pub returns-in_default : goal.returns-in_default
+unfolding submit_host
+returns-in_default c = call_unmatched c.args.h _ _ _ _ _ (named_not _ _ _ c.in_default.ensures) (rw c.submit_refused.ensures)
 
 pub returns-in-Err : goal.returns-in-Err
 unfolding submit_host
-returns-in-Err c = call_stays c.args.h _ _ _ _ _ c.due.ensures _ _ _ c.in-Err.ensures (rw c.submit_refused.ensures)
+returns-in-Err c = let fine = named_is _ _ _ c.in-Ok.ensures in call_stays c.args.h _ _ _ _ _ c.due.ensures _ _ _ (sym (c.in-Err.ensures c.args.h fine.0 fine.1)) (rw c.submit_refused-in-Err.ensures)
 
-pub returns-in-Ok : goal.returns-in-Ok
+pub returns-in-Ok-admit : goal.returns-in-Ok-admit
 unfolding submit_host
-returns-in-Ok c = call_does c.args.h _ _ _ _ _ c.due.ensures _ _ _ _ c.in-Ok.ensures (λ e d. rw (c.submitted.ensures, ← e, ← ap (λ (z : Submission × At). z.0) d, ← ap (λ (z : Submission × At). z.1) d, ← c.submit-r.ensures))
+returns-in-Ok-admit c = let fine = named_is _ _ _ c.in-Ok.ensures in call_does c.args.h _ _ _ _ _ c.due.ensures _ _ _ _ (sym (c.in-Ok-admit.ensures c.args.h fine.0 fine.1)) (λ e d. rw (c.submitted.ensures, ← e, ← ap (λ (z : Submission × At). z.0) d, ← ap (λ (z : Submission × At). z.1) d, ← c.submit-r.ensures))
