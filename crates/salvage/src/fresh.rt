@@ -106,7 +106,7 @@ fn write_by<'a>(
     rename(rt, part, name).map_err(|e| Failure::new(b"write", name, e))
 }
 
-/// Writes the fresh file, or says why it is not written, after which nothing is left of its part.
+/// Writes the fresh file, or says why it is not written, after which nothing is left of a part that it made.
 pub fn write(rt: &HostRuntime, name: &[u8], bytes: &[u8]) -> bool {
     let whole = Part::of(name);
     let part = whole.name();
