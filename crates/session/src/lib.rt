@@ -340,7 +340,7 @@ fn voices_of(kind: u64) -> usize
 }
 
 /// The n queued records: strictly ordered, each in order by itself, what they hold live, of right kind and rate, and at most so many Stingers.
-#[tactic(auto, using(crate::proofs::Walk::clipless, crate::proofs::Walk::one_at_most, crate::proofs::Walk::stingers_none, crate::proofs::Walk::stingers_few, crate::proofs::Walk::stingers_stay))]
+#[tactic(auto, using(crate::proofs::Walk::one_at_most, crate::proofs::Walk::stingers_none, crate::proofs::Walk::stingers_few))]
 fn queued_ok(b: Bank, rate: u32, last: u64, most: usize, store: &[u64], n: usize) -> bool
     requires { n * 5 ≤ length store.now }
     ensures { result ≡ all_below n (λ j. ordered_at store.now j && (entry_ok last (row_at store.now j) && claim_ok b rate (claim_of (read_of (row_at store.now j))))) && leb (stingers store.now n) most }
@@ -354,15 +354,14 @@ fn queued_ok(b: Bank, rate: u32, last: u64, most: usize, store: &[u64], n: usize
         if !timeline::entry_ok(x, last) {
             return false;
         }
-        if !timeline::holds_clip(x.kind) {
-            continue;
+        if timeline::holds_clip(x.kind) {
+            let place = bank::place_of(timeline::handle_of(x.first));
+            let clip = b.clips[place];
+            if !row_held(b.used, clip, rate, x) {
+                return false;
+            }
+            stingers += voices_of(x.kind);
         }
-        let place = bank::place_of(timeline::handle_of(x.first));
-        let clip = b.clips[place];
-        if !row_held(b.used, clip, rate, x) {
-            return false;
-        }
-        stingers += voices_of(x.kind);
     }
     stingers <= most
 }

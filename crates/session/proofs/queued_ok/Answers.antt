@@ -6,8 +6,9 @@ use lib.Dec.{leb}
 use lib.ListN.{length}
 use Rattle.counts.proofs.Truth.{and_false_l}
 use Rattle.timeline.specs.Queue.{ordered_at, stingers}
-use Rattle.session.proofs.Walk.{clip_read, passed_next, passed_all, order_stops, entry_stops, claim_stops, stingers_next}
+use Rattle.session.proofs.Walk.{clip_read, clipless, passed_next, passed_all, order_stops, entry_stops, claim_stops, stingers_next, stingers_stay}
 use Rattle.session.proofs.Checks.{passes}
+use Rattle.session.proofs.queued_ok.Goals.{then-holds_clip+else-not-row_held, else-holds_clip}
 use Rattle.session.proofs.queued_ok.Goals as goal
 
 pub returns-then-not-ordered_at : goal.returns-then-not-ordered_at
@@ -28,8 +29,16 @@ returns-then-not-row_held c =
 
 pub loop-j-preserved : goal.loop-j-preserved
 loop-j-preserved c =
-    let m : length c.args.b.clips ≡ 32 = omega arith in
-    (omega (arith, c.loop-j-test.true), passed_next c.args.b c.args.rate c.args.last (ordered_at c.args.store.now) c.args.store.now c.loop-j.j _ c.row_at-x.ensures c.loop-j.invariant.1 (passes c.ordered_at.ensures c.if-not-ordered_at.false) (passes c.entry_ok.ensures c.if-not-entry_ok.false) (passes (c.row_held.ensures c.args.b refl (clip_read c.args.b c.args.b refl m _ _ _ (rw c.handle_of.ensures at c.place_of-place.ensures))) c.if-not-row_held.false), stingers_next c.args.store.now c.loop-j.j _ c.row_at-x.ensures _ _ c.loop-j.invariant.2 (ap (λ n. c.loop-j.stingers + n) c.voices_of-stingers.ensures))
+    let a = c.args in
+    let m : length a.b.clips ≡ 32 = omega arith in
+    let next = passed_next a.b a.rate a.last (ordered_at a.store.now) a.store.now c.loop-j.j _ c.row_at-x.ensures c.loop-j.invariant.1 (passes c.ordered_at.ensures c.if-not-ordered_at.false) (passes c.entry_ok.ensures c.if-not-entry_ok.false) in
+    elim c.if-holds_clip.branch [
+      | then-holds_clip+else-not-row_held w ↦
+          (omega (arith, c.loop-j-test.true), next (passes (w.row_held.ensures a.b refl (clip_read a.b a.b refl m _ _ _ (rw w.handle_of.ensures at w.place_of-place.ensures))) w.if-not-row_held.false), stingers_next a.store.now c.loop-j.j _ c.row_at-x.ensures _ _ c.loop-j.invariant.2 (w.stingers-is ∙ ap (λ n. c.loop-j.stingers + n) w.voices_of-stingers.ensures))
+      | else-holds_clip w ↦
+          let none = sym c.holds_clip.ensures ∙ w.if-holds_clip.false in
+          (omega (arith, c.loop-j-test.true), next (clipless a.b a.rate _ none), w.stingers-is ∙ stingers_stay a.store.now c.loop-j.j _ c.row_at-x.ensures _ c.loop-j.invariant.2 none)
+    ]
 
 pub returns : goal.returns
 returns c =
