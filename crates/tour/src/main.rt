@@ -21,8 +21,12 @@ fn play(rt: &impl Print, visit: &mut Visit, scene: &[Cue]) -> io::Result<()> {
 }
 
 /// From the hall into the nave, captured.
-fn way_in(rt: &impl Print, list: &mut [u64; 25]) -> io::Result<Visit> {
-    let mut visit = Visit::enter(rt)?;
+fn way_in<'a>(
+    rt: &impl Print,
+    pool: &'a mut [f32; 16000],
+    list: &mut [u64; 25],
+) -> io::Result<Visit<'a>> {
+    let mut visit = Visit::enter(rt, pool)?;
     visit.start_capture(rt)?;
     play(rt, &mut visit, &score::ROUND_THE_HALL)?;
     play(rt, &mut visit, &score::INTO_THE_NAVE)?;
@@ -41,13 +45,15 @@ fn way_out(rt: &impl Print, visit: &mut Visit) -> io::Result<()> {
 
 /// The whole tour. The list is then what its way in captured.
 fn first_visit(rt: &impl Print, list: &mut [u64; 25]) -> io::Result<()> {
-    let mut visit = way_in(rt, list)?;
+    let mut pool = [0.0; 16000];
+    let mut visit = way_in(rt, &mut pool, list)?;
     way_out(rt, &mut visit)
 }
 
 /// What was captured, heard again.
 fn second_visit(rt: &impl Print, list: &[u64; 25]) -> io::Result<()> {
-    let mut visit = Visit::enter(rt)?;
+    let mut pool = [0.0; 16000];
+    let mut visit = Visit::enter(rt, &mut pool)?;
     visit.replay(rt, list)?;
     visit.blocks(rt, 20)
 }
@@ -55,7 +61,8 @@ fn second_visit(rt: &impl Print, list: &[u64; 25]) -> io::Result<()> {
 /// A brief one with the music turned down, in a mode.
 fn low_visit(rt: &impl Print, mode: u32) -> io::Result<()> {
     sheet::mode(rt, mode)?;
-    let mut visit = Visit::enter_briefly(rt, mode)?;
+    let mut pool = [0.0; 16000];
+    let mut visit = Visit::enter_briefly(rt, &mut pool, mode)?;
     play(rt, &mut visit, &score::LOW)
 }
 

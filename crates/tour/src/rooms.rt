@@ -5,9 +5,9 @@ ghost use Rattle.std.specs.Prelude.{◌<◌};
 #[derive(Clone, Copy)]
 pub struct Tone {
     /// The saw's period in frames.
-    pub period: usize,
+    pub period: u32,
     /// How many frames a beat takes to fall from full to silence.
-    pub beat: usize,
+    pub beat: u32,
     pub left: f32,
     pub right: f32,
     ghost goes_round: { 0 < period },
@@ -39,15 +39,15 @@ pub const BELL: Tone = Tone {
 };
 
 /// How far a frame is into the cycle that it falls in, from 0 up to 1.
-fn through(frame: usize, cycle: usize) -> f32
+fn through(frame: u32, cycle: u32) -> f32
     requires { 0 < cycle }
 {
-    std::num::nearest_usize_to_f32(frame % cycle) / std::num::nearest_usize_to_f32(cycle)
+    std::num::nearest_u32_to_f32(frame % cycle) / std::num::nearest_u32_to_f32(cycle)
 }
 
 impl Tone {
     /// A frame at full: the saw rises from -1 to 1, the beat falls from 1 to 0.
-    fn level(self, frame: usize) -> f32 {
+    fn level(self, frame: u32) -> f32 {
         let saw = through(frame, self.period) * 2.0 - 1.0;
         let fall = 1.0 - through(frame, self.beat);
         saw * fall
@@ -55,7 +55,7 @@ impl Tone {
 
     /// Fills a clip from its first frame on.
     pub fn sound(self, clip: &mut [f32]) {
-        for (frame, samples) in clip.chunks_mut(2).enumerate() {
+        for (frame, samples) in (0..u32::MAX).zip(clip.chunks_mut(2)) {
             if let [left, right] = samples {
                 let x = self.level(frame);
                 *left = x * self.left;

@@ -23,56 +23,57 @@ fn settings(mode: u32) -> Settings {
     }
 }
 
-/// A session, and the stores that its host keeps.
+/// A session, and the stores that its host keeps: the pool is too large to be handed on, and lent.
 #[derive(Drop)]
-pub struct Visit {
+pub struct Visit<'a> {
     session: Session,
     queue: [u64; 40],
     capture: [u64; 40],
-    pool: [f32; 16000],
+    pool: &'a mut [f32; 16000],
 }
 
-impl Visit {
+impl<'a> Visit<'a> {
     // ---- opening and loading
 
     /// A visit begins in the hall, with the nave and the bell at hand.
-    pub fn enter(rt: &impl Print) -> io::Result<Visit> {
+    pub fn enter(rt: &impl Print, pool: &'a mut [f32; 16000]) -> io::Result<Visit<'a>> {
         let mut hall = [0.0; 8000];
         let mut nave = [0.0; 6000];
         let mut bell = [0.0; 1200];
         HALL.sound(&mut hall);
         NAVE.sound(&mut nave);
         BELL.sound(&mut bell);
-        let mut visit = Visit::open(rt, AS_TONO, &hall, SongFrame(4000))?;
+        let mut visit = Visit::open(rt, pool, AS_TONO, &hall, SongFrame(4000))?;
         visit.load(rt, &nave, Kind::Song(SongFrame(3000)))?;
         visit.load(rt, &bell, Kind::Stinger)?;
         Ok(visit)
     }
 
     /// A visit to the hall's first two bars and the nave's first, in a mode.
-    pub fn enter_briefly(rt: &impl Print, mode: u32) -> io::Result<Visit> {
+    pub fn enter_briefly(
+        rt: &impl Print,
+        pool: &'a mut [f32; 16000],
+        mode: u32,
+    ) -> io::Result<Visit<'a>> {
         let mut hall = [0.0; 4000];
         let mut nave = [0.0; 2000];
         HALL.sound(&mut hall);
         NAVE.sound(&mut nave);
-        let mut visit = Visit::open(rt, mode, &hall, SongFrame(2000))?;
+        let mut visit = Visit::open(rt, pool, mode, &hall, SongFrame(2000))?;
         visit.load(rt, &nave, Kind::Song(SongFrame(1000)))?;
         Ok(visit)
     }
 
-    fn open(rt: &impl Print, mode: u32, hall: &[f32], lasts: SongFrame) -> io::Result<Visit> {
+    fn open(
+        rt: &impl Print,
+        pool: &'a mut [f32; 16000],
+        mode: u32,
+        hall: &[f32],
+        lasts: SongFrame,
+    ) -> io::Result<Visit<'a>> {
         let queue = [0; 40];
         let capture = [0; 40];
-        let mut pool = [0.0; 16000];
-        let r = clips::open(
-            settings(mode),
-            &queue,
-            &capture,
-            &mut pool,
-            hall,
-            RATE,
-            lasts,
-        );
+        let r = clips::open(settings(mode), &queue, &capture, pool, hall, RATE, lasts);
         sheet::loaded(rt, r.answer)?;
         Ok(Visit {
             session: r.session,
@@ -83,11 +84,12 @@ impl Visit {
     }
 
     fn load(&mut self, rt: &impl Print, clip: &[f32], kind: Kind) -> io::Result<()> {
+        let pool = &mut *self.pool;
         let r = clips::load(
             self.session,
             &self.queue,
             &self.capture,
-            &mut self.pool,
+            pool,
             clip,
             kind,
             RATE,
@@ -110,7 +112,7 @@ impl Visit {
             self.session,
             &self.queue,
             &self.capture,
-            &self.pool,
+            self.pool,
             &mut out,
         );
         self.session = r.session;
