@@ -53,7 +53,7 @@ impl Tone {
         saw * fall
     }
 
-    /// Fills a clip from its first frame on.
+    /// Fills a clip from its first frame on. Frames are counted in 32 bits, which divide faster than 64.
     pub fn sound(self, clip: &mut [f32]) {
         for (frame, samples) in (0..u32::MAX).zip(clip.chunks_mut(2)) {
             if let [left, right] = samples {

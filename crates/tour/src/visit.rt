@@ -84,6 +84,7 @@ impl<'a> Visit<'a> {
     }
 
     fn load(&mut self, rt: &impl Print, clip: &[f32], kind: Kind) -> io::Result<()> {
+        // Lent first: the check has no rule for it beside the stores that are lent already.
         let pool = &mut *self.pool;
         let r = clips::load(
             self.session,
